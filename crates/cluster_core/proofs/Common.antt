@@ -2,7 +2,7 @@
 pub use Rattle.cached_frag.specs.Cached.{Cached}
 pub use Rattle.cached_frag.specs.declared.jobs.Job.{Job}
 pub use Rattle.cluster_core.specs.Administers.{Administers, AdministersTree, BeginsAt, BeginsCommit, EvictsOne, HoldsInside, IsAnyPinned, IsUnseen, Merges, MergesLeaves, Splits, SplitsLeaf, told_nothing, told_job}
-pub use Rattle.cluster_core.specs.Asked.{IsAsked, IsSessionOf, MayApply}
+pub use Rattle.cluster_core.specs.Asked.{IsAsked, IsNewTo, IsSessionOf, MayApply}
 pub use Rattle.cluster_core.specs.Commits.{JobsKeepObjects, JobsTakeWhatIsShown}
 pub use Rattle.cluster_core.specs.Exporting.{CancelsAt, Exports, FinishesIn, FreezesIn, HasPinnedUnder, ImportsExport, IsUnseenStep, KeepsTreeAndRoots, PrepsIn, SendsExport, StartsIn}
 pub use Rattle.cluster_core.specs.Flush.{KeepsCore}
@@ -19,8 +19,8 @@ pub use Rattle.cluster_core.proofs.Records.{AddsAtServe, AddsTo, IsOfHistory, Re
 pub use Rattle.cluster_core.specs.Runs.{IsRun, Runs, StepsBook}
 pub use Rattle.cluster_core.specs.Serve.{AppliesRequest, AtFront, CarryLeaves, FollowPlanned, ForwardsTo, HasLeft, IsApplied, IsDeferred, IsForwarded, IsLeft, IsNoted, IsRepeated, IsTakenOut, LeavesRefused, MakesPlanned, RefusesRequest, Repeats, Replies, ServesInbox, ServesRequest, entry_of, number_of, outcome_of, went_with, with_entry, without_gone, without_request}
 pub use Rattle.cluster_core.specs.Settled.{AreSettled, IsAway, IsCalm, IsCalmIn, IsCalmOp, HasSettled, KeepsSettled}
-pub use Rattle.cluster_core.specs.Sound.{AreCached, AreExported, AreRanks, AreSupplied, IsFresh, IsSoundWith, IsSound, IsSoundBook, IsSupplied}
-pub use Rattle.cluster_core.specs.State.{Core, BookState, State, core_of, new_state, no_supply, shown, state_of, supply_of, whole_supplies}
+pub use Rattle.cluster_core.specs.Sound.{AreCached, AreExported, AreRanks, AreSupplied, IsFresh, IsSound, IsSoundBehind, IsSoundBook, IsSoundKept, IsSoundWith, IsSupplied, StandsBehind}
+pub use Rattle.cluster_core.specs.State.{BookState, Core, KeptState, State, core_of, new_state, no_supply, places_of, shown, state_of, supply_of, whole_of, whole_supplies, with_sessions}
 pub use Rattle.cluster_core.specs.Steps.{ArrivesAt, Does, TreeMayRefuse, Steps}
 pub use Rattle.cluster_core.specs.Uses.{Asks, ChangesOp, ReadsOp, UsesApplied, UsesFront, UsesRequest, UsesStep}
 pub use Rattle.cluster_core.specs.declared.applying.Prepared.{Prepared}
@@ -146,9 +146,11 @@ pub use Rattle.ranked_tree.specs.Mounted.{AreTopRoots}
 pub use Rattle.ranked_tree.specs.Ranked.{KeepsRanked, Ranked, held_roots}
 pub use Rattle.ranked_tree.specs.Sending.{Sends}
 pub use Rattle.ranked_tree.specs.Subtrees.{AllHave, AreRoots, HoldsAt, KeepsAuthorities, KeepsHolders, KeepsRoots, LoseDirectory, Rules, SettleBy}
+pub use Rattle.sessions.proofs.AsideLaws.{aside_none, aside_push, forgot_all}
 pub use Rattle.sessions.proofs.TableLaws.{table-none, table-push}
+pub use Rattle.sessions.specs.Aside.{AreSetAside, StopsForgetting, forget_all}
 pub use Rattle.sessions.specs.Rooms.{table}
-pub use Rattle.sessions.specs.Table.{Table, noted, trimmed}
+pub use Rattle.sessions.specs.Table.{IsTableOf, Table, no_table, noted, trimmed}
 pub use Rattle.sorted_map.proofs.MapLaws.{entries-contents}
 pub use Rattle.sorted_map.proofs.NatKeys.{is_same, same_or_apart}
 pub use Rattle.sorted_map.specs.SortedMap.{contents}

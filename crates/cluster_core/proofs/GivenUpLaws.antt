@@ -1,5 +1,5 @@
 -- A book stays sound where a request is given up.
-use Rattle.cluster_core.proofs.Common.{AreCached, AreExported, AreSettled, BookState, Core, Entry, Inboxes, IsSound, List, Pin, Rank, Request, [], ap, arith, length, length-set, refl, subst, sym, waiting_at, with_waiting, without_request, ◌∙◌, ◌∷◌, ◌≡◌}
+use Rattle.cluster_core.proofs.Common.{AreCached, AreExported, AreSetAside, AreSettled, Core, Entry, Inboxes, IsSound, IsSoundBehind, List, Pin, Rank, Request, Table, [], ap, arith, length, length-set, refl, subst, sym, waiting_at, with_waiting, without_request, ◌++◌, ◌∙◌, ◌∷◌, ◌≡◌}
 use Rattle.mds_types.specs.Tree.{Tree}
 use Rattle.cluster_core.specs.GivenUp.{GivesUpIn, with_waiters}
 
@@ -29,3 +29,13 @@ pub given_settled : (old new : Core) (rank : Rank) (waiting : List Request) (ran
 given_settled old new rank [] ranks given settled = subst (λ (c : Core). AreSettled c.state ranks) (sym given) settled
 given_settled old new rank (request ∷ rest) ranks given settled =
     subst (λ (c : Core). AreSettled c.state ranks) (sym given) (settled_beside old (with_waiting old.state.inboxes rank rest) (without_request old.state.pins request) ranks settled)
+
+pub given_behind : (opening : Tree) (past history : List Entry) (old new : Core) (rank : Rank) (waiting : List Request) → GivesUpIn old new rank waiting → IsSoundBehind opening past history old → IsSoundBehind opening past history new
+given_behind opening past history old new rank waiting given behind = record {
+  sound = given_sound opening (past ++ history) old new rank waiting given behind.sound;
+  aside = subst (λ (t : Table). AreSetAside past history t) (sym (known waiting given)) behind.aside;
+}
+  where
+    known : (waiting : List Request) → GivesUpIn old new rank waiting → new.state.sessions ≡ old.state.sessions
+    known [] given = ap (λ (k : Core). k.state.sessions) given
+    known (request ∷ rest) given = ap (λ (k : Core). k.state.sessions) given

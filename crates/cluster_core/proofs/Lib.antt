@@ -11,6 +11,7 @@ pub mod DirsStay
 pub mod Exported
 pub mod FirstLaws
 pub mod FlushedBook
+pub mod Forgotten
 pub mod FragmentLaws
 pub mod FreezeLaws
 pub mod FrontLaws

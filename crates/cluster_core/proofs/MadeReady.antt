@@ -42,9 +42,9 @@ unmade old new op change one reason outcome offered changed followed stand = rec
 }
 
 -- what was found of a request at its master is still so after reads
-pub asked_later : (f g : State) (roots now : Roots) (numbers : List Supply) (sessions : Held) (past : List Entry) (asked : Asked) (request : Request) → g ≡ f → now ≡ roots → IsAsked f roots numbers sessions past asked request → IsAsked g now numbers sessions past asked request
-asked_later f g roots now numbers sessions past asked request follows rooted h =
-    subst (λ (s : State). IsAsked s now numbers sessions past asked request) (sym follows) (subst (λ (r : Roots). IsAsked f r numbers sessions past asked request) (sym rooted) h)
+pub asked_later : (f g : State) (roots now : Roots) (numbers : List Supply) (sessions : Held) (asked : Asked) (request : Request) → g ≡ f → now ≡ roots → IsAsked f roots numbers sessions asked request → IsAsked g now numbers sessions asked request
+asked_later f g roots now numbers sessions asked request follows rooted h =
+    subst (λ (s : State). IsAsked s now numbers sessions asked request) (sym follows) (subst (λ (r : Roots). IsAsked f r numbers sessions asked request) (sym rooted) h)
 
 -- the checks find the same after reads
 pub checked_later : (old mid : Ranked) (op : Op) (limit later n m : ℕ) (found : Checked) → KeepsRanked old mid op None → limit ≡ later → n ≡ m

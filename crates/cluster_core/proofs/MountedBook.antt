@@ -1,5 +1,6 @@
 -- A cluster over a store as it is found is sound from the tree that it opens with.
-use Rattle.cluster_core.proofs.Common.{AreCaches, AreHeld, AreNumbers, AreTopRoots, CacheMap, Core, Covers, Dentry, Inode, IsFresh, IsIn, IsOfRank, IsOwned, IsSound, IsSupplied, IsSupply, List, Mounts, MountsCore, None, Objects, Roots, Some, Supply, Tree, [], ap, arith, core_of, dentry-total, dentry_cmp, first_number, get-empty, get_entry, get_or, inl, inr, length, length-replicate, map, no_supply, none_stand, refl, replicate, shown_in, slice_get, subst, suc, sym, table-none, top_of_none, whole_supplies, zero, ℕ, ◌+◌, ◌<◌, ◌∙◌, ◌∷◌, ◌≡◌, ◌≤◌, ◌⊎◌}
+use Rattle.cluster_core.proofs.Common.{AreCaches, AreHeld, AreNumbers, AreTopRoots, CacheMap, Core, Covers, Dentry, Inode, IsFresh, IsIn, IsOfRank, IsOwned, IsSound, IsSupplied, IsSupply, List, Mounts, MountsCore, None, Objects, Roots, Some, State, Supply, Tree, [], ap, arith, core_of, dentry-total, dentry_cmp, first_number, get-empty, get_entry, get_or, inl, inr, length, length-replicate, map, no_supply, none_stand, refl, replicate, shown_in, slice_get, subst, suc, sym, table-none, top_of_none, whole_supplies, zero, ℕ, ◌+◌, ◌<◌, ◌∙◌, ◌∷◌, ◌≡◌, ◌≤◌, ◌⊎◌}
+use Rattle.sessions.specs.Table.{no_table}
 use Rattle.std.specs.Prelude.{Contains}
 use Rattle.std.specs.FinMap as finmap
 use Rattle.mdcache.specs.Core.{Core as TreeCore, state_of}
@@ -76,7 +77,7 @@ whole_numbers ranks ss a = whole_from 0 ss ranks a.count (λ k s is. let of = a.
 
 module _ (limit : ℕ) (objects : Objects) (ranks places : ℕ) (t : TreeCore) (roots : Roots) (opening : Tree) (ss : List Supply) (is : Mounts limit objects ranks places opening t) (opens : opening ≡ shown_in t) (given : AreNumbers (shown_in t) ranks ss) (top : AreTopRoots t.covers roots) where
   abbrev core : Core
-  core = core_of t roots finmap.empty ss (replicate ranks []) [] finmap.empty
+  core = core_of t roots finmap.empty ss (replicate ranks []) [] no_table
 
   its_numbers : AreNumbers opening ranks ss
   its_numbers = subst (λ (tree : Tree). AreNumbers tree ranks ss) (sym opens) given
@@ -88,7 +89,7 @@ module _ (limit : ℕ) (objects : Objects) (ranks places : ℕ) (t : TreeCore) (
       go (inl (none, new)) =
           let first : roots ≡ _ = top_of_none roots (subst (λ (cs : Covers). AreTopRoots cs roots) (ap (λ (s : TreeState). s.covers) new.state) top) in
           let all : ss ≡ whole_supplies 0 ranks = whole_numbers ranks ss (subst (λ (tree : Tree). AreNumbers tree ranks ss) new.none its_numbers) in
-          inl (none, new.none, record { state = λ i. record { tree = new.state i; roots = first i; exports = finmap.empty; numbers = all i; inboxes = replicate ranks []; pins = []; sessions = finmap.empty }; caches = new.caches })
+          inl (none, new.none, record { state = λ i. record { tree = new.state i; roots = first i; exports = finmap.empty; numbers = all i; inboxes = replicate ranks []; pins = []; sessions = no_table }; caches = new.caches })
       go (inr (some, m)) = inr (
         some,
         record {
@@ -135,3 +136,8 @@ module _ (limit : ℕ) (objects : Objects) (ranks places : ℕ) (t : TreeCore) (
     supplied = supplied_from opening ranks ss most its_numbers;
     kept = table-none;
   }
+
+-- nothing is kept there, and nothing is forgotten
+pub mounts_none_kept : (limit : ℕ) (objects : Objects) (ranks places : ℕ) (opening : Tree) (made : Core) → MountsCore limit objects ranks places opening made → made.state.sessions ≡ no_table
+mounts_none_kept limit objects ranks places opening made (inl (none, empty, new)) = ap (λ (s : State). s.sessions) new.state
+mounts_none_kept limit objects ranks places opening made (inr (some, m)) = m.sessions

@@ -1,5 +1,5 @@
 -- What serving makes of the tree and of what stands beside it, said of the cluster's state.
-use Rattle.cluster_core.proofs.Common.{Answer, Answers, AppliesRequest, Bool, CarryLeaves, Change, ChangesOnly, Checked, Checks, Covers, Deferred, Dirfrag, Entry, Err, FollowPlanned, ForwardsTo, HasLeft, Inboxes, Ino, IsApplied, IsChecked, IsKeptAt, IsLeft, IsMasterIn, IsNew, IsNoted, IsOneOf, IsPrepared, IsTakenOut, IsTrimmed, IsUntouched, LacksNumber, LeavesRefused, List, MakesPlanned, MayTouchAllIn, MustWaitIn, NoInodes, NoMemory, None, Ok, Op, Option, Outcome, Pin, Prepared, Rank, Refusal, RefusesRequest, Repeats, Replies, Reply, Request, Result, Roots, ServesInbox, Some, Standing, State, Supply, Table, Tree, Trimmed, [], after_plan, after_taking, answers, ap, changed_fragments, cond, entry_of, false, fragments_are, fragments_in, inl, inr, is_idle, leaves_of, length, no_supply, noted, number_of, number_or, offer, refl, root_fragment, set, set-get_or, shown_tree, slice_index_or, state_of, step, subst, supply_of, sym, trimmed, true, went_with, with_entry, with_waiting, without_gone, without_request, ℕ, ◌++◌, ◌∙◌, ◌∷◌, ◌≡◌, ◌≢◌, ◌⊎◌}
+use Rattle.cluster_core.proofs.Common.{Answer, Answers, AppliesRequest, Bool, CarryLeaves, Change, ChangesOnly, Checked, Checks, Covers, Deferred, Dirfrag, Entry, Err, FollowPlanned, ForwardsTo, HasLeft, Inboxes, Ino, IsApplied, IsChecked, IsKeptAt, IsLeft, IsMasterIn, IsNew, IsNoted, IsOneOf, IsPrepared, IsTakenOut, IsTrimmed, IsUntouched, LacksNumber, LeavesRefused, List, MakesPlanned, MayTouchAllIn, MustWaitIn, NoInodes, NoMemory, None, Ok, Op, Option, Outcome, Pin, Prepared, Rank, Refusal, RefusesRequest, Repeats, Replies, Reply, Request, Result, Roots, ServesInbox, Some, Standing, State, Supply, Table, Tree, Trimmed, [], after_plan, after_taking, answers, ap, append_assoc, arith, changed_fragments, cond, entry_of, false, fragments_are, fragments_in, inl, inr, is_idle, leaves_of, length, length-append, no_supply, noted, number_of, number_or, offer, refl, root_fragment, set, set-get_or, shown_tree, slice_index_or, state_of, step, subst, supply_of, sym, trimmed, true, went_with, with_entry, with_waiting, without_gone, without_request, ℕ, ◌++◌, ◌+◌, ◌∙◌, ◌∷◌, ◌≡◌, ◌≢◌, ◌⊎◌}
 use Rattle.mds_types.specs.declared.replies.Reply.{Reply as Replied}
 use Rattle.dentry_cache.specs.Cache.{Leaf}
 use Rattle.mdcache.specs.State.{State as TreeState}
@@ -37,6 +37,29 @@ outcome_of_change limit tree covers Holds op numbers change prepared checked is 
   one_of = checked.one_of;
   fragments = fragments_are limit tree covers Holds op (number_or (offer numbers)) change checked;
 }
+
+-- what was noted behind the entries that aren't forgotten is noted behind all
+module _ (old new : Inboxes) (before after : List Pin) (known sessions : Table) (gone past now : List Entry) (rank : Rank) where
+  pub noted_behind : (number went : Option Ino) (said told : Replied) (request : Request) (rest : List Request) (answer : Answer) → length gone ≡ known.forgotten
+      → IsNoted old new before after known sessions (known.forgotten + length past) past now rank number went said told request rest answer
+      → IsNoted old new before after known sessions (length (gone ++ past)) (gone ++ past) (gone ++ now) rank number went said told request rest answer
+  noted_behind number went said told request rest answer long h =
+      let place : known.forgotten + length past ≡ length (gone ++ past) = omega (arith, length-append gone past, long) in
+      let entry : Entry = record { client = request.client; tid = request.tid; oldest = request.oldest; op = request.op; number = number; reply = said } in
+      record {
+        answered = h.answered ∙ ap (λ n. Reply request.client request.tid n true told) place;
+        inboxes = h.inboxes;
+        pins = h.pins;
+        appended = ap (λ (l : List Entry). gone ++ l) h.appended ∙ sym (append_assoc gone past (entry ∷ []));
+        noted = h.noted ∙ ap (λ n. trimmed (noted known request.client request.tid request.oldest n) request.client) place;
+      }
+
+  pub replies_behind : (said : Replied) (result : Result Answer Refusal) (request : Request) (rest : List Request) → length gone ≡ known.forgotten
+      → Replies old new before after known sessions (known.forgotten + length past) past now rank said result request rest
+      → Replies old new before after known sessions (length (gone ++ past)) (gone ++ past) (gone ++ now) rank said result request rest
+  replies_behind said (Ok answer) request rest long h = noted_behind None None said said request rest answer long h
+  replies_behind said (Err reason) request rest long h =
+      record { named = h.named; inboxes = h.inboxes; pins = h.pins; same = ap (λ (l : List Entry). gone ++ l) h.same; known_still = h.known_still }
 
 module _ (f : TreeState) (roots : Roots) (exports : Standing) (numbers : List Supply) (inboxes : Inboxes) (pins : List Pin) (sessions : Table) (past : List Entry) (rank : Rank) (MayRefuse : Op → Refusal → Type 0) where
   -- the request at the front, and those behind it
@@ -150,7 +173,7 @@ module _ (f : TreeState) (roots : Roots) (exports : Standing) (numbers : List Su
           (leaves : CarryLeaves (shown_tree f) (shown_tree h) f.covers h.covers)
           (frame : ChangesOnly (IsUntouched f h) (fragments_in f.covers change))
           (followed : FollowPlanned change f roots roots_now)
-          (noted_now : IsNoted inboxes inboxes_now pins pins_now between sessions_now middle now rank prepared.number prepared.went prepared.reply prepared.answer request rest answer)
+          (noted_now : IsNoted inboxes inboxes_now pins pins_now between sessions_now (length middle) middle now rank prepared.number prepared.went prepared.reply prepared.answer request rest answer)
           (drawn : numbers_after ≡ set numbers_now rank.0 prepared.numbers) where
         abbrev entry : Option Ino → Replied → Entry
         entry number reply = record { client = request.client; tid = request.tid; oldest = request.oldest; op = request.op; number = number; reply = reply }
@@ -221,7 +244,7 @@ module _ (f : TreeState) (roots : Roots) (exports : Standing) (numbers : List Su
 
         pub replied : (inboxes_now : Inboxes) (pins_now : List Pin) (sessions_now : Table) (now : List Entry) (numbers_after : List Supply) (result : Result Answer Refusal)
             → MayTouchAllIn f roots exports pins rank request.client request.tid request.op → numbers_after ≡ numbers
-            → Replies inboxes inboxes_now pins pins_now sessions sessions_now past now rank said result request rest
+            → Replies inboxes inboxes_now pins pins_now sessions sessions_now (length past) past now rank said result request rest
             → AppliesRequest old (state_of f roots exports numbers_after inboxes_now pins_now sessions_now) past now MayRefuse rank result request rest
         replied inboxes_now pins_now sessions_now now numbers_after (Ok answer) may same h =
             applied_new f roots exports sessions past numbers refl refl refl refl inboxes_now numbers_after pins_now sessions_now now None readily answer may outcome_so

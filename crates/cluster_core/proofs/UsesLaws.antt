@@ -44,11 +44,11 @@ module _ (tree new : TreeState) (roots : Roots) where
       late (inr is) = absurd (subst IsOfFragments is of)
 
   -- a request that changes nothing
-  pub replied_uses : (op : Op) (before after : CacheMap) (inboxes now : Inboxes) (pins pins_now : List Pin) (known sessions : Table) (past past_now : List Entry) (rank : Rank) (said : Replied) (result : Result Answer Refusal) (request : Request) (rest : List Request)
-      → Replies inboxes now pins pins_now known sessions past past_now rank said result request rest → ReadsOp tree roots op before after → UsesRequest tree new roots op before after result
-  replied_uses op before after inboxes now pins pins_now known sessions past past_now rank said (Ok answer) request rest h reads =
-      applied_uses op before after answer request.client request.tid (length past) said h.answered (after, reads, nothing_came)
-  replied_uses op before after inboxes now pins pins_now known sessions past past_now rank said (Err reason) request rest h reads = unready_uses op before after reason (subst IsOfFragments (sym h.named) tt) reads
+  pub replied_uses : (op : Op) (before after : CacheMap) (inboxes now : Inboxes) (pins pins_now : List Pin) (known sessions : Table) (place : ℕ) (past past_now : List Entry) (rank : Rank) (said : Replied) (result : Result Answer Refusal) (request : Request) (rest : List Request)
+      → Replies inboxes now pins pins_now known sessions place past past_now rank said result request rest → ReadsOp tree roots op before after → UsesRequest tree new roots op before after result
+  replied_uses op before after inboxes now pins pins_now known sessions place past past_now rank said (Ok answer) request rest h reads =
+      applied_uses op before after answer request.client request.tid place said h.answered (after, reads, nothing_came)
+  replied_uses op before after inboxes now pins pins_now known sessions place past past_now rank said (Err reason) request rest h reads = unready_uses op before after reason (subst IsOfFragments (sym h.named) tt) reads
 
 -- a request isn't made ready for a reason of the tree
 pub unmade_of : (MayRefuse : Refusal → Type 0) → ((reason : Refusal) → MayRefuse reason → IsOfFragments reason) → (outcome : Outcome) (offered : Option Ino) (reason : Refusal) → WhyUnmade MayRefuse outcome offered reason → IsOfFragments reason

@@ -25,20 +25,23 @@ pub record IsSessionOf (sessions : Held) (client : ℕ) (at : SessionAt) : Type 
   pub named : at.client ≡ client
   pub found : IsSessionAt sessions at
 
--- a request is new, the rank is its master, a directory may have so many entries, the rank has these numbers left, and
--- the client's session is there
-pub record IsAsked (tree : TreeState) (roots : Roots) (numbers : List Supply) (sessions : Held) (past : List Entry)
-    (asked : Asked) (request : Request) : Type 0 where
-  pub is_new : IsNew past request.client request.tid request.oldest
+-- the rank is a request's master, a directory may have so many entries, the rank has these numbers left, and the
+-- client's session is there
+pub record IsAsked (tree : TreeState) (roots : Roots) (numbers : List Supply) (sessions : Held) (asked : Asked)
+    (request : Request) : Type 0 where
   pub master : IsMasterIn tree roots asked.rank request.op asked.rank
   pub limit : asked.limit ≡ tree.limit
   pub left : asked.supply ≡ get_or numbers asked.rank.0 no_supply
   pub session : IsSessionOf sessions request.client asked.session
 
+-- a request is new behind these entries
+abbrev pub IsNewTo : List Entry → Request → Type 0
+IsNewTo history request = IsNew history request.client request.tid request.oldest
+
 -- such a request may be applied with this change, which the checks found: the rank may change all that it would
 pub record MayApply (tree : TreeState) (roots : Roots) (exports : Standing) (pins : List Pin) (numbers : List Supply)
-    (sessions : Held) (past : List Entry) (asked : Asked) (change : Change) (request : Request) : Type 0 where
-  pub is_asked : IsAsked tree roots numbers sessions past asked request
+    (sessions : Held) (asked : Asked) (change : Change) (request : Request) : Type 0 where
+  pub is_asked : IsAsked tree roots numbers sessions asked request
   pub checked : IsChecked (shown_tree tree) tree.covers (HoldsAt tree (holding exports roots)) request.op
       (number_or (offer asked.supply))
       (step asked.limit (shown_tree tree) request.op (number_or (offer asked.supply))) change

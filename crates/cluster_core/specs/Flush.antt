@@ -9,7 +9,7 @@ use Rattle.mdcache.specs.Flushed.{HasFragment}
 pub use Rattle.mdcache.specs.Flushed.{AreExact}
 pub use Rattle.mdcache.specs.Mounted.{IsColdTree}
 use Rattle.mdcache.specs.State.{State as TreeState}
-use Rattle.cluster_core.specs.State.{Core, BookState, shown}
+use Rattle.cluster_core.specs.State.{Core, KeptState, shown}
 
 -- a tree where no commit is begun any more; beside that, what isn't clean, the store's objects and what is to be
 -- removed of them differ alone
@@ -24,7 +24,7 @@ pub record KeepsCore (old new : Core) : Type 0 where
   pub caches : Came (HasFragment old.caches) NoneEnds old.caches new.caches
 
 -- so it is with a book, and its opening tree and its history stay
-pub record KeepsBook (old new : BookState) : Type 0 where
+pub record KeepsBook (old new : KeptState) : Type 0 where
   pub opening : new.opening ≡ old.opening
   pub history : new.history ≡ old.history
   pub core : KeepsCore old.core new.core
@@ -35,16 +35,16 @@ abbrev pub MayNotFlush : (old new : Core) → Refusal → Type 0
 MayNotFlush old new reason = MayNotCommit 256 (record old.state.tree { jobs = map.empty }) old.faults new.faults reason
 
 -- while an export stands nothing is flushed, and all is left
-pub record IsHindered (old new : BookState) (result : Result (Unit {0}) Refusal) : Type 0 where
+pub record IsHindered (old new : KeptState) (result : Result (Unit {0}) Refusal) : Type 0 where
   pub stands : old.core.state.exports ≢ map.empty
   pub refused : result ≡ Err NotClean
   pub left : new ≡ old
 
 -- where none stands the book is kept, whatever is answered, and a refusal has its reason
-pub record IsTried (old new : BookState) (result : Result (Unit {0}) Refusal) : Type 0 where
+pub record IsTried (old new : KeptState) (result : Result (Unit {0}) Refusal) : Type 0 where
   pub none : old.core.state.exports ≡ map.empty
   pub kept : KeepsBook old new
   pub refused : IfErr result (MayNotFlush old.core new.core)
 
-abbrev pub Flushes : (old new : BookState) → Result (Unit {0}) Refusal → Type 0
+abbrev pub Flushes : (old new : KeptState) → Result (Unit {0}) Refusal → Type 0
 Flushes old new result = IsHindered old new result ⊎ IsTried old new result

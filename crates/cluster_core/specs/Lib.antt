@@ -8,6 +8,7 @@ pub mod Checks
 pub mod Commits
 pub mod Exporting
 pub mod Flush
+pub mod Forgetting
 pub mod Fragments
 pub mod GivenUp
 pub mod Grants

@@ -8,6 +8,7 @@ use Rattle.inode_table.specs.TreeTable.{IsCounted}
 use Rattle.mdcache.specs.Mounted.{AreNumbers, IsWalked, mounted}
 use Rattle.mdcache.specs.New.{new_caches}
 use Rattle.ranked_tree.specs.Mounted.{AreTopRoots}
+use Rattle.sessions.specs.Table.{no_table}
 use Rattle.cluster_core.specs.State.{Core, new_state}
 
 -- the cluster over a store that has no object, as `format` makes it: nothing but the root's leaf is cached
@@ -30,7 +31,7 @@ pub record IsMountedCore (limit : ℕ) (objects : Objects) (ranks places : ℕ) 
   pub numbers : AreNumbers opening ranks core.state.numbers
   pub inboxes : core.state.inboxes ≡ replicate ranks []
   pub pins : core.state.pins ≡ []
-  pub sessions : core.state.sessions ≡ map.empty
+  pub sessions : core.state.sessions ≡ no_table
   pub caches : core.caches ≡ no_caches ranks places
 
 -- a store with no object is mounted as a new one, any other as a walk finds it

@@ -1,20 +1,22 @@
 -- What is left of a book that wasn't opened again.
-use Rattle.std.specs.Prelude.{ℕ, Err}
-use Rattle.mds_types.specs.History.{after}
+use Rattle.std.specs.Prelude.{ℕ, List, Err}
+use Rattle.mds_types.specs.declared.entries.Entry.{Entry}
+use Rattle.mds_types.specs.Tree.{Tree}
 use Rattle.mds_types.specs.declared.refusals.Refusal.{Refusal}
 use Rattle.objstore.specs.Objects.{Objects}
 use Rattle.cold_store.specs.ColdTree.{IsColdTree}
 use Rattle.mdcache.specs.Mounted.{MayNotMount}
 use Rattle.cluster_core.specs.Flush.{Flushes}
-use Rattle.cluster_core.specs.Sound.{IsSoundBook}
-use Rattle.cluster_core.specs.State.{BookState}
+use Rattle.cluster_core.specs.Sound.{StandsBehind}
+use Rattle.cluster_core.specs.State.{KeptState, shown}
 use Rattle.cluster_core.specs.declared.restarting.NotRestarted.{NotRestarted}
 use Rattle.cluster_core.specs.declared.restarting.NotRestarted.TheVariants.{Unflushed, Unmounted}
 
 -- nothing is lost: the flush was refused, and the book is as a refused flush leaves it; or the mount was, and the store has
--- the tree after the history
-abbrev pub LosesNothing : {S : Type 0} → (objects : S → Objects) (faults : S → ℕ) → BookState → NotRestarted S → Type 0
-LosesNothing objects faults old (Unflushed reason left) = Flushes old left (Err reason) × IsSoundBook left
+-- the tree that was shown
+abbrev pub LosesNothing : {S : Type 0} → (objects : S → Objects) (faults : S → ℕ) → KeptState → NotRestarted S → Type 0
+LosesNothing objects faults old (Unflushed reason left) = Flushes old left (Err reason)
+    × ((opening : Tree) (past : List Entry) → StandsBehind opening past old → StandsBehind opening past left)
 LosesNothing objects faults old (Unmounted reason store) =
-    IsColdTree (objects store) (after old.core.state.tree.limit old.opening old.history)
+    IsColdTree (objects store) (shown old.core.state)
     × ((before : ℕ) × MayNotMount (objects store) before (faults store) reason)

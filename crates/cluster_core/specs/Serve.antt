@@ -252,11 +252,11 @@ Repeats old new before after rank at said (Err reason) request rest =
     (reason ≡ NoMemory) × (new ≡ old) × (after ≡ before)
 
 -- a new request at the front was answered with this reply, told once more to its client: it has left, with its grants
--- and those on a directory that went; there is one entry more, which its client's session keeps
-pub record IsNoted (old new : Inboxes) (before after : List Pin) (known sessions : Table) (past now : List Entry)
-    (rank : Rank) (number : Option Ino) (went : Option Ino) (said told : Replied) (request : Request)
-    (rest : List Request) (answer : Answer) : Type 0 where
-  pub answered : answer ≡ Reply request.client request.tid (length past) true told
+-- and those on a directory that went; there is one entry more, at this place, which its client's session keeps
+pub record IsNoted (old new : Inboxes) (before after : List Pin) (known sessions : Table) (place : ℕ)
+    (past now : List Entry) (rank : Rank) (number : Option Ino) (went : Option Ino) (said told : Replied)
+    (request : Request) (rest : List Request) (answer : Answer) : Type 0 where
+  pub answered : answer ≡ Reply request.client request.tid place true told
   pub inboxes : new ≡ with_waiting old rank rest
   pub pins : after ≡ without_gone (without_request before request) went
   pub appended : now ≡ past ++ record {
@@ -267,8 +267,7 @@ pub record IsNoted (old new : Inboxes) (before after : List Pin) (known sessions
     number = number;
     reply = said;
   } ∷ []
-  pub noted : sessions ≡ trimmed (noted known request.client request.tid request.oldest
-      (length past)) request.client
+  pub noted : sessions ≡ trimmed (noted known request.client request.tid request.oldest place) request.client
 
 -- for want of memory it waits on
 pub record IsUnnoted (old new : Inboxes) (before after : List Pin) (known sessions : Table) (past now : List Entry)
@@ -280,11 +279,11 @@ pub record IsUnnoted (old new : Inboxes) (before after : List Pin) (known sessio
   pub known_still : sessions ≡ known
 
 -- a new request at the front that changes nothing is answered with this reply
-abbrev pub Replies : (old new : Inboxes) → (before after : List Pin) → (known sessions : Table)
+abbrev pub Replies : (old new : Inboxes) → (before after : List Pin) → (known sessions : Table) → (place : ℕ)
     → (past now : List Entry) → Rank → Replied → Result Answer Refusal → Request → List Request → Type 0
-Replies old new before after known sessions past now rank said (Ok answer) request rest =
-    IsNoted old new before after known sessions past now rank None None said said request rest answer
-Replies old new before after known sessions past now rank said (Err reason) request rest =
+Replies old new before after known sessions place past now rank said (Ok answer) request rest =
+    IsNoted old new before after known sessions place past now rank None None said said request rest answer
+Replies old new before after known sessions place past now rank said (Err reason) request rest =
     IsUnnoted old new before after known sessions past now reason
 
 -- a request at the front goes to the back of another inbox; where that is full it waits on

@@ -13,8 +13,8 @@ use Rattle.subtree_map.specs.Authority.{HasAuthority}
 use Rattle.cluster_core.specs.declared.events.Event.{Event}
 use Rattle.cluster_core.specs.declared.events.Event.TheVariants.{Arrive, Serve, Grant, Split, Merge, CommitBegin, CommitEnd, CommitDrop, CommitTree, Purge, Evict, Start, Freeze, Prep, Send, Import, Finish, Cancel}
 use Rattle.cluster_core.specs.Pins.{HasPin}
-use Rattle.cluster_core.specs.Sound.{IsSoundBook}
-use Rattle.cluster_core.specs.State.{BookState, State}
+use Rattle.cluster_core.specs.Sound.{IsSoundKept}
+use Rattle.cluster_core.specs.State.{KeptState, State}
 
 -- a leaf is a rank's, a subtree root or of a directory with a pin of its own, and its directory is pinned to another
 -- rank of the book
@@ -35,8 +35,8 @@ abbrev pub AreSettled : State → List Rank → Type 0
 AreSettled state ranks = (rank : Rank) → Contains ranks rank → HasSettled state rank
 
 -- a book is sound, and nothing of these ranks is pinned away
-pub record IsSettledBook (book : BookState) (ranks : List Rank) : Type 0 where
-  pub sound : IsSoundBook book
+pub record IsSettledBook (book : KeptState) (ranks : List Rank) : Type 0 where
+  pub sound : IsSoundKept book
   pub settled : AreSettled book.core.state ranks
 
 -- an operation that moves nothing and pins nothing

@@ -1,5 +1,5 @@
 -- What every book keeps.
-use Rattle.std.specs.Prelude.{◌≡◌, ℕ, ◌<◌, ◌≤◌, true, List, Some, get_or, length}
+use Rattle.std.specs.Prelude.{◌≡◌, ℕ, ◌<◌, ◌≤◌, ◌++◌, true, IfSome, List, Some, get_or, length}
 use Rattle.std.specs.FinMap as map
 use Rattle.mds_types.specs.declared.entries.Entry.{Entry}
 use Rattle.mds_types.specs.declared.ids.Rank.{Rank}
@@ -15,9 +15,10 @@ use Rattle.export_steps.specs.Standing.{is_freezing}
 use Rattle.mdcache.specs.Core.{AllCachedIn as AreCachedIn}
 use Rattle.mdcache.specs.Sound.{IsSound as IsSoundTree}
 use Rattle.mdcache.specs.State.{State as TreeState}
+use Rattle.sessions.specs.Aside.{AreSetAside}
 use Rattle.sessions.specs.Table.{IsTableOf}
 use Rattle.cluster_core.specs.Master.{IsFrozenAt}
-use Rattle.cluster_core.specs.State.{Core, BookState, held_roots, no_supply, shown}
+use Rattle.cluster_core.specs.State.{Core, BookState, KeptState, held_roots, no_supply, shown}
 use Rattle.ranked_tree.specs.Held.{AreHeld}
 use Rattle.ranked_tree.specs.Subtrees.{AreRoots}
 
@@ -87,6 +88,21 @@ pub record IsSound (opening : Tree) (history : List Entry) (core : Core) : Type 
   pub supplied : AreSupplied opening history core.state.numbers
   pub kept : IsTableOf history core.state.sessions
 
--- a book is sound if its parts are
+-- a whole book is sound if its parts are
 abbrev pub IsSoundBook : BookState → Type 0
 IsSoundBook book = IsSound book.opening book.history book.core
+
+-- a cluster with the entries that aren't forgotten goes on from this opening tree and this past, which is forgotten: it
+-- is sound with all entries, and what is kept of the past is set aside
+pub record IsSoundBehind (opening : Tree) (past history : List Entry) (core : Core) : Type 0 where
+  pub sound : IsSound opening (past ++ history) core
+  pub aside : AreSetAside past history core.state.sessions
+
+-- so does a book, which needn't keep the opening tree
+pub record StandsBehind (opening : Tree) (past : List Entry) (book : KeptState) : Type 0 where
+  pub opened : IfSome book.opening (λ tree. tree ≡ opening)
+  pub behind : IsSoundBehind opening past book.history book.core
+
+-- every book does, from some opening tree and some past
+abbrev pub IsSoundKept : KeptState → Type 0
+IsSoundKept book = (opening : Tree) × (past : List Entry) × StandsBehind opening past book

@@ -1,5 +1,5 @@
 -- What contracts see of a cluster.
-use Rattle.std.specs.Prelude.{ℕ, zero, suc, ◌<◌, ◌+◌, ◌*◌, ◌^◌, get_or, List, [], ◌∷◌, replicate}
+use Rattle.std.specs.Prelude.{ℕ, zero, suc, ◌<◌, ◌+◌, ◌*◌, ◌^◌, ◌++◌, get_or, length, List, [], ◌∷◌, Option, replicate}
 use Rattle.std.specs.FinMap as map
 use Rattle.mds_types.specs.declared.entries.Entry.{Entry}
 use Rattle.mds_types.specs.declared.ids.Rank.{Rank}
@@ -16,7 +16,7 @@ use Rattle.mdcache.specs.New.{new_tree_state as new_tree}
 use Rattle.ranked_tree.specs.Ranked.{new_roots}
 use Rattle.mdcache.specs.Shown.{shown_tree}
 use Rattle.mdcache.specs.State.{State as TreeState}
-use Rattle.sessions.specs.Table.{Table}
+use Rattle.sessions.specs.Table.{Table, no_table}
 use Rattle.subtree_map.specs.Authority.{Roots}
 
 -- all that a refused step leaves as it was: the tree with its directories and their leaves, what of it isn't clean, the
@@ -39,11 +39,29 @@ pub record Core : Type 0 where
   pub caches : CacheMap
   pub faults : ℕ
 
--- a book: a cluster, the history of what it answered, and the tree that it opened with
+-- a whole book: a cluster, the history of all that it answered, and the tree that it opened with
 pub record BookState : Type 0 where
   pub opening : Tree
   pub history : List Entry
   pub core : Core
+
+-- what is kept of a book: the opening tree, if it's kept; the entries that aren't forgotten; and the cluster
+pub record KeptState : Type 0 where
+  pub opening : Option Tree
+  pub history : List Entry
+  pub core : Core
+
+-- the whole book of which so much is kept, behind these entries
+abbrev pub whole_of : Tree → List Entry → KeptState → BookState
+whole_of opening past book = record { opening = opening; history = past ++ book.history; core = book.core }
+
+-- how many entries a book ever had: the place of the next one
+abbrev pub places_of : KeptState → ℕ
+places_of book = book.core.state.sessions.forgotten + length book.history
+
+-- a cluster with other sessions
+abbrev pub with_sessions : Core → Table → Core
+with_sessions core sessions = record core { state = record core.state { sessions = sessions } }
 
 -- the roots, each with the rank that holds its region
 abbrev pub held_roots : State → Roots
@@ -105,5 +123,5 @@ new_state ranks limit = record {
   numbers = whole_supplies 0 ranks;
   inboxes = replicate ranks [];
   pins = [];
-  sessions = map.empty;
+  sessions = no_table;
 }

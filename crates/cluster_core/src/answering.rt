@@ -1,6 +1,6 @@
 //! Answering a request that changes nothing. It has a way of its own, since most requests are look-ups: no change is
 //! carried along, and no number.
-ghost use Rattle.std.specs.Prelude.{◌≡◌, ◌<◌, IfOk, OnOk, vec_len, vec_capacity};
+ghost use Rattle.std.specs.Prelude.{◌≡◌, ◌<◌, ◌+◌, IfOk, OnOk, length, vec_len, vec_capacity};
 ghost use Rattle.std.specs.Result.{result_err};
 ghost use Rattle.objstore.specs.Objects.{faults_told};
 ghost use Rattle.inboxes.specs.Inboxes.{waiting_at};
@@ -30,7 +30,8 @@ pub(crate) fn answer(
         (waiting_at waiting.old.inboxes asked.now.rank) }
     ensures replies { AtFront
         (Replies waiting.old.inboxes waiting.new.inboxes waiting.old.pins waiting.new.pins (table given.old.sessions)
-        (table given.new.sessions) history.old.items history.new.items asked.now.rank reply result)
+        (table given.new.sessions) ((table given.old.sessions).forgotten + length history.old.items) history.old.items
+        history.new.items asked.now.rank reply result)
         (waiting_at waiting.old.inboxes asked.now.rank) }
     ensures numbers { given.new.numbers.items ≡ given.old.numbers.items }
     ensures counted { faults_told (result_err result) ≡ 0 }
@@ -42,7 +43,7 @@ pub(crate) fn answer(
     let Some(request) = waiting.inboxes.take(asked.rank) else {
         unreachable!()
     };
-    let place = history.len();
+    let place = given.sessions.forgotten() + history.len();
     let Request {
         client,
         tid,

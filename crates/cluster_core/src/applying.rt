@@ -1,6 +1,6 @@
 //! Applying a request: everything that may be refused comes first, its change the last of it, and then what stands
 //! beside the tree.
-ghost use Rattle.std.specs.Prelude.{◌≡◌, ◌<◌, ◌+◌, Err, length, set, vec_len, vec_capacity, IfErr, IfOk, IsSome, OnOk};
+ghost use Rattle.std.specs.Prelude.{◌≡◌, ◌<◌, ◌+◌, ◌++◌, Err, List, length, set, vec_len, vec_capacity, IfErr, IfOk, IsSome, OnOk};
 ghost use Rattle.std.specs.Result.{result_err};
 ghost use Rattle.objstore.specs.Objects.{faults_told};
 ghost use Rattle.dirfrag_codec.specs.EntryRecord.{IsRankNumber};
@@ -12,7 +12,8 @@ ghost use Rattle.mdcache.specs.Core.{state_of as tree_state};
 ghost use Rattle.mdcache.specs.Shown.{shown_tree};
 ghost use Rattle.ranked_tree.specs.Ranked.{held_roots, MayRefuse};
 ghost use Rattle.ranked_tree.specs.Subtrees.{KeepsRoots};
-ghost use Rattle.cluster_core.specs.Asked.{IsSessionOf, MayApply};
+ghost use Rattle.mds_types.specs.declared.entries.Entry.{Entry as Applied};
+ghost use Rattle.cluster_core.specs.Asked.{IsNewTo, IsSessionOf, MayApply};
 ghost use Rattle.cluster_core.specs.Offer.{after_taking};
 ghost use Rattle.cluster_core.specs.Prepared.{IsPrepared, WhyUnprepared};
 ghost use Rattle.cluster_core.specs.Serve.{AppliesRequest, AtFront, IsNoted, LeavesRefused, without_gone};
@@ -59,18 +60,19 @@ pub(crate) fn apply<S: Store + Drop>(
 ) -> Result<Answer, Refusal>
     requires may { AtFront
         (λ request rest. MayApply (tree_state tree.old.tree) tree.old.subtrees.roots tree.old.exports waiting.old.pins
-        given.old.numbers.items given.old.sessions history.old.items asked.now change request)
+        given.old.numbers.items given.old.sessions asked.now change request)
         (waiting_at waiting.old.inboxes asked.now.rank) }
     requires offered { IsOffered (shown_tree (tree_state tree.old.tree))
         (λ n. IsRankNumber n) (offer asked.now.supply) }
     requires there { asked.now.rank.0 < length given.old.numbers.items }
-    ensures applied { AtFront
-        (AppliesRequest
+    ensures applied { (past : List Applied) → length past ≡ (table given.old.sessions).forgotten → AtFront
+        (λ request rest. IsNewTo (past ++ history.old.items) request → AppliesRequest
         (state_of (tree_state tree.old.tree) tree.old.subtrees.roots tree.old.exports given.old.numbers.items
         waiting.old.inboxes waiting.old.pins (table given.old.sessions))
         (state_of (tree_state tree.new.tree) tree.new.subtrees.roots tree.new.exports given.new.numbers.items
-        waiting.new.inboxes waiting.new.pins (table given.new.sessions)) history.old.items history.new.items
-        (MayRefuse tree.old tree.new) asked.now.rank result) (waiting_at waiting.old.inboxes asked.now.rank) }
+        waiting.new.inboxes waiting.new.pins (table given.new.sessions)) (past ++ history.old.items)
+        (past ++ history.new.items) (MayRefuse tree.old tree.new) asked.now.rank result request rest)
+        (waiting_at waiting.old.inboxes asked.now.rank) }
     ensures uses { AtFront
         (λ request rest. UsesApplied (tree_state tree.old.tree) (tree_state tree.new.tree) (held_roots tree.old)
         request.op tree.old.tree.caches tree.new.tree.caches result)
@@ -177,7 +179,8 @@ fn commit(
     requires there { asked.now.rank.0 < length given.old.numbers.items }
     ensures noted { AtFront
         (λ request rest. IsNoted waiting.old.inboxes waiting.new.inboxes waiting.old.pins waiting.new.pins
-        (table given.old.sessions) (table given.new.sessions) history.old.items history.new.items asked.now.rank
+        (table given.old.sessions) (table given.new.sessions)
+        ((table given.old.sessions).forgotten + length history.old.items) history.old.items history.new.items asked.now.rank
         prepared.number prepared.went prepared.reply prepared.answer request rest result)
         (waiting_at waiting.old.inboxes asked.now.rank) }
     ensures drawn { given.new.numbers.items ≡ set given.old.numbers.items asked.now.rank.0 prepared.numbers }
@@ -185,7 +188,7 @@ fn commit(
     let Some(request) = waiting.inboxes.take(asked.rank) else {
         unreachable!()
     };
-    let place = history.len();
+    let place = given.sessions.forgotten() + history.len();
     let Request {
         client,
         tid,

@@ -1,15 +1,17 @@
 //! The book: a cluster with the history of what it answered.
-ghost use Rattle.std.specs.Prelude.{◌≡◌, ◌+◌, ◌≤◌, ◌++◌, [], length, Contains, IfOk, IfErr, OnOk};
+ghost use Rattle.std.specs.Prelude.{◌≡◌, ◌+◌, ◌≤◌, ◌++◌, [], List, Some, option_copied, Contains, IfOk, IfErr, OnOk};
 ghost use Rattle.std.specs.List.{AllByRecursion};
+ghost use Rattle.mds_types.specs.declared.entries.Entry.{Entry as Applied};
+ghost use Rattle.mds_types.specs.Tree.{Tree};
 ghost use Rattle.std.specs.FinMap as map;
 ghost use Rattle.mds_types.specs.History.{after};
 ghost use Rattle.objstore.specs.Objects.{faults_in};
 ghost use Rattle.mdcache.specs.New.{MayNotFormat, new_caches};
 ghost use Rattle.cluster_core.specs.Fragments.{LieAtHolder};
 ghost use Rattle.cluster_core.specs.OneThread.{InOrder, IsOneThread, arrival, receipt_of, waiting_in};
-ghost use Rattle.cluster_core.specs.State.{new_state, shown};
+ghost use Rattle.cluster_core.specs.State.{new_state, places_of, shown};
 ghost use Rattle.cluster_core.specs.Steps.{Steps};
-ghost use Rattle.cluster_core.specs.Sound.{IsSoundBook};
+ghost use Rattle.cluster_core.specs.Sound.{StandsBehind, IsSoundKept};
 ghost use Rattle.cluster_core.specs.Uses.{UsesStep};
 
 use crate::clusters::Cluster;
@@ -22,14 +24,17 @@ use objstore::Store;
 use std::alloc::Global;
 use std::marker::Model;
 
-/// A cluster, the history of what it answered, and the tree that it opened with. Of every value of this type it holds
-/// that the history is legal from the opening tree, and that the tree which the cluster shows is the tree after it: the
-/// objects of its store, overlaid with what isn't clean.
+/// A cluster, the history of what it answered, and the tree that it opened with. A beginning of the history may be
+/// forgotten, and then the opening tree is too. Of every value of this type it holds that the whole history, what is
+/// forgotten and what isn't, is legal from the opening tree, and that the tree which the cluster shows is the tree after
+/// it: the objects of its store, overlaid with what isn't clean.
 #[derive(Drop)]
 pub struct Book<S: Store + Drop> {
     pub(crate) cluster: Cluster<S>,
+    /// The entries that aren't forgotten.
     pub(crate) history: Vec<Entry>,
-    pub(crate) opening: PlainTree,
+    /// The tree that it opened with, as long as nothing is forgotten.
+    pub(crate) opening: Option<PlainTree>,
     /// The ranks of which it is known that nothing of theirs is pinned to another.
     pub(crate) settled: Settled,
 }
@@ -37,10 +42,10 @@ pub struct Book<S: Store + Drop> {
 impl<S: Store + Drop> Model for Book<S> {
     ghost use Rattle.std.specs.Coded.{codes};
     ghost use Rattle.std.specs.FinMap as map;
-    ghost use Rattle.cluster_core.specs.State.{BookState};
+    ghost use Rattle.cluster_core.specs.State.{KeptState};
     ghost use Rattle.cluster_core.specs.Settled.{IsSettledBook};
 
-    ghost Value = { BookState };
+    ghost Value = { KeptState };
 
     ghost coded = { Prim.hlevel (codes, map.code) };
 
@@ -51,27 +56,28 @@ impl<S: Store + Drop> Model for Book<S> {
 }
 
 impl<S: Store + Drop> Book<S> {
-    /// Tells what every book keeps: its history is legal from the tree that it opened with, and what it shows is the
-    /// tree after that.
+    /// Tells what every book keeps: from some opening tree its whole history is legal, and what it shows is the tree
+    /// after that.
     pub fn is_sound(&self)
-        ensures { IsSoundBook self.now }
+        ensures { IsSoundKept self.now }
     {
         let _ = &self.history;
     }
 
-    /// The history so far.
+    /// The history so far, but for its beginning where that is forgotten: the first entry here is that of the place
+    /// `places() - history().len()`.
     pub fn history(&self) -> &[Entry]
         ensures history { result.now ≡ self.now.history }
-        ensures sound { IsSoundBook self.now }
+        ensures sound { IsSoundKept self.now }
     {
         self.history.as_slice()
     }
 
-    /// The tree that the book opened with.
-    pub fn opening(&self) -> &PlainTree
-        ensures { result.now ≡ self.now.opening }
+    /// The tree that the book opened with; None once that is no longer kept, as after `forget` and `drop_opening`.
+    pub fn opening(&self) -> Option<&PlainTree>
+        ensures { option_copied result ≡ self.now.opening }
     {
-        &self.opening
+        self.opening.as_ref()
     }
 
     /// The cluster, to read. A caller also learns from it that each fragment which a rank caches is one that it holds,
@@ -84,25 +90,31 @@ impl<S: Store + Drop> Book<S> {
     }
 
     /// One event, one atomic step: what it answers, or why it is refused. The opening tree stays. The history grows by
-    /// one entry where a request is applied, and each reply that is handed out stands in it.
+    /// one entry where a request is applied, and each reply that is handed out stands in the whole history, at a place
+    /// that is counted from the first entry ever. What is said of the whole history holds whichever opening tree and
+    /// past the book goes on from.
     ///
     /// What this is to whoever sends requests is the first part of the contract: one plain tree, served by one thread.
     /// Then come what the fragments, caches and objects of all ranks mean together, which is that tree, what each event
     /// does to the state, and what it makes of the caches.
     #[inline(always)]
     pub fn step(&mut self, alloc: Global, event: Event) -> Result<Answer, Refusal>
-        ensures one_thread { IsOneThread self.old.core.state.tree.limit self.old.opening self.old.history self.new.history
+        ensures one_thread { (opening : Tree) (past : List Applied) → StandsBehind opening past self.old
+            → IsOneThread self.old.core.state.tree.limit opening (past ++ self.old.history) (past ++ self.new.history)
             (waiting_in self.old.core.state.inboxes ++ arrival event) (receipt_of result) }
-        ensures in_order { InOrder (length self.old.history) (receipt_of result) (length self.new.history) }
+        ensures in_order { InOrder (places_of self.old) (receipt_of result) (places_of self.new) }
         ensures waits { AllByRecursion (Contains (waiting_in self.old.core.state.inboxes ++ arrival event))
             (waiting_in self.new.core.state.inboxes) }
-        ensures shows { shown self.new.core.state
-            ≡ after self.old.core.state.tree.limit self.old.opening self.new.history }
-        ensures stepped { Steps self.old.core self.new.core self.old.history self.new.history result event }
+        ensures shows { (opening : Tree) (past : List Applied) → StandsBehind opening past self.old
+            → shown self.new.core.state ≡ after self.old.core.state.tree.limit opening (past ++ self.new.history) }
+        ensures stepped { (opening : Tree) (past : List Applied) → StandsBehind opening past self.old
+            → Steps self.old.core self.new.core (past ++ self.old.history) (past ++ self.new.history) result event }
         ensures uses { UsesStep self.old.core self.new.core result event }
+        ensures goes_on { (opening : Tree) (past : List Applied) → StandsBehind opening past self.old
+            → StandsBehind opening past self.new }
         ensures opening { self.new.opening ≡ self.old.opening }
         ensures limit { self.new.core.state.tree.limit ≡ self.old.core.state.tree.limit }
-        ensures sound { IsSoundBook self.new }
+        ensures sound { IsSoundKept self.new }
     {
         let past = self.history.len();
         let may = may_unsettle(&event);
@@ -157,13 +169,14 @@ pub fn format<S: Store + Drop>(
     requires least { 512 ≤ cache }
     requires most { cache ≤ 65536 }
     ensures empty { OnOk result (S.objects store ≡ map.empty) }
-    ensures opening { IfOk result (λ book. book.opening ≡ map.empty) }
+    ensures opening { IfOk result (λ book. book.opening ≡ Some map.empty) }
     ensures history { IfOk result (λ book. book.history ≡ []) }
+    ensures goes_on { IfOk result (StandsBehind map.empty []) }
     ensures state { IfOk result (λ book. book.core.state ≡ new_state ranks limit) }
     ensures caches { IfOk result (λ book. book.core.caches ≡ new_caches ranks cache) }
     ensures refused { IfErr result (λ back. MayNotFormat (S.objects store) (S.faults store) (S.faults back.1) back.0) }
     ensures left { IfErr result (λ back. S.objects back.1 ≡ S.objects store) }
-    ensures sound { IfOk result IsSoundBook }
+    ensures sound { IfOk result IsSoundKept }
     ensures faults { IfOk result (λ book. book.core.faults ≡ S.faults store) }
     ensures counted { IfErr result (λ back. S.faults back.1 ≡ S.faults store + faults_in back.0) }
 {
@@ -171,7 +184,7 @@ pub fn format<S: Store + Drop>(
         Ok(cluster) => Ok(Book {
             cluster,
             history: Vec::new(alloc),
-            opening: PlainTree::new(alloc),
+            opening: Some(PlainTree::new(alloc)),
             settled: Settled::new(alloc),
         }),
         Err(back) => Err(back),

@@ -1,11 +1,12 @@
 //! The cluster and its events.
-ghost use Rattle.std.specs.Prelude.{◌≡◌, ◌+◌, ◌≤◌, [], List, length, nat_lt, replicate, Ok, Err, IfOk, IfErr, OnOk};
+ghost use Rattle.std.specs.Prelude.{◌≡◌, ◌+◌, ◌≤◌, ◌++◌, [], List, length, nat_lt, replicate, Ok, Err, IfOk, IfErr, OnOk};
 ghost use Rattle.objstore.specs.Objects.{faults_in, faults_told};
 ghost use Rattle.std.specs.Result.{result_err};
 ghost use Rattle.std.specs.FinMap as map;
 ghost use Rattle.mds_types.specs.declared.entries.Entry.{Entry as Applied};
 ghost use Rattle.mds_types.specs.Tree.{Tree};
 ghost use Rattle.sessions.specs.Rooms.{table};
+ghost use Rattle.sessions.specs.Table.{no_table};
 ghost use Rattle.mdcache.specs.New.{MayNotFormat, new_caches};
 ghost use Rattle.cluster_core.specs.State.{new_state, whole_supplies};
 ghost use Rattle.cluster_core.specs.Steps.{ArrivesAt, AtRank, TreeMayRefuse, ServesRank, Steps};
@@ -13,7 +14,7 @@ ghost use Rattle.cluster_core.specs.Uses.{UsesStep};
 ghost use Rattle.cluster_core.specs.declared.events.Event.TheVariants.{Serve as ServeEvent, Grant as GrantEvent};
 ghost use Rattle.cluster_core.specs.Grants.{GrantsWaiting};
 ghost use Rattle.ranked_tree.specs.Subtrees.{AreRoots, KeepsRoots};
-ghost use Rattle.cluster_core.specs.Sound.{AreCached, IsSoundWith, IsSound};
+ghost use Rattle.cluster_core.specs.Sound.{AreCached, IsSoundBehind, IsSoundWith};
 ghost use Rattle.cluster_core.specs.Administers.{ListsLeaves, TellsAuthority};
 ghost use Rattle.cluster_core.specs.Exporting.{TellsSentBytes};
 
@@ -101,8 +102,8 @@ impl<S: Store + Drop> Cluster<S> {
         }
     }
 
-    /// One event, one atomic step. Cluster and history are as a book keeps them from some opening tree; from whichever
-    /// they were, they are so afterwards.
+    /// One event, one atomic step. The history has the entries that aren't forgotten. Cluster and history are as a book
+    /// keeps them from some opening tree and some past; from whichever they were, they are so afterwards.
     #[inline(always)]
     pub fn step(
         &mut self,
@@ -110,11 +111,12 @@ impl<S: Store + Drop> Cluster<S> {
         history: &mut Vec<Entry>,
         event: Event,
     ) -> Result<Answer, Refusal>
-        requires { (opening : Tree) × IsSound opening history.old.items self.old }
-        ensures stepped { Steps self.old self.new history.old.items history.new.items result event }
+        requires { (opening : Tree) × (past : List Applied) × IsSoundBehind opening past history.old.items self.old }
+        ensures stepped { (opening : Tree) (past : List Applied) → IsSoundBehind opening past history.old.items self.old
+            → Steps self.old self.new (past ++ history.old.items) (past ++ history.new.items) result event }
         ensures uses { UsesStep self.old self.new result event }
-        ensures sound { (opening : Tree) → IsSound opening history.old.items self.old
-            → IsSound opening history.new.items self.new }
+        ensures sound { (opening : Tree) (past : List Applied) → IsSoundBehind opening past history.old.items self.old
+            → IsSoundBehind opening past history.new.items self.new }
     {
         let answer = self.choose(alloc, history, event);
         self.tree.is_sound();
@@ -130,8 +132,9 @@ impl<S: Store + Drop> Cluster<S> {
         history: &mut Vec<Entry>,
         event: Event,
     ) -> Result<Answer, Refusal>
-        requires { (opening : Tree) × IsSound opening history.old.items self.old }
-        ensures stepped { Steps self.old self.new history.old.items history.new.items result event }
+        requires { (opening : Tree) × (past : List Applied) × IsSoundBehind opening past history.old.items self.old }
+        ensures stepped { (opening : Tree) (past : List Applied) → IsSoundBehind opening past history.old.items self.old
+            → Steps self.old self.new (past ++ history.old.items) (past ++ history.new.items) result event }
         ensures uses { UsesStep self.old self.new result event }
         ensures valid { AreRoots self.new.state.tree self.new.state.roots }
     {
@@ -204,9 +207,10 @@ impl<S: Store + Drop> Cluster<S> {
         history: &mut Vec<Entry>,
         rank: Rank,
     ) -> Result<Answer, Refusal>
-        requires { (opening : Tree) × IsSound opening history.old.items self.old }
-        ensures served { AtRank self.old self.new history.old.items history.new.items rank result
-            (ServesRank self.old self.new history.old.items history.new.items rank result) }
+        requires { (opening : Tree) × (past : List Applied) × IsSoundBehind opening past history.old.items self.old }
+        ensures served { (opening : Tree) (past : List Applied) → IsSoundBehind opening past history.old.items self.old
+            → AtRank self.old self.new (past ++ history.old.items) (past ++ history.new.items) rank result
+            (ServesRank self.old self.new (past ++ history.old.items) (past ++ history.new.items) rank result) }
         ensures uses { UsesStep self.old self.new result (ServeEvent rank) }
         ensures kept { KeepsRoots self.old.state.tree self.new.state.tree self.old.state.roots self.new.state.roots
             self.old.state.exports self.new.state.exports }
@@ -341,7 +345,7 @@ fn parts_of(alloc: Global, ranks: u8) -> Result<Parts, AllocError>
     ensures inboxes { IfOk result (λ parts. parts.waiting.inboxes ≡ replicate ranks []) }
     ensures pins { IfOk result (λ parts. parts.waiting.pins ≡ []) }
     ensures numbers { IfOk result (λ parts. parts.given.numbers.items ≡ whole_supplies 0 ranks) }
-    ensures sessions { IfOk result (λ parts. table parts.given.sessions ≡ map.empty) }
+    ensures sessions { IfOk result (λ parts. table parts.given.sessions ≡ no_table) }
 {
     Ok(Parts {
         waiting: Waiting::new(alloc, ranks)?,

@@ -1,11 +1,12 @@
 //! A flush: all that isn't in the store is written.
-ghost use Rattle.std.specs.Prelude.{◌≡◌, ◌+◌, ◌≤◌, ◌↔◌, IsTrue, length, OnOk, IfErr};
+ghost use Rattle.std.specs.Prelude.{◌≡◌, ◌+◌, ◌≤◌, ◌↔◌, IsTrue, List, length, OnOk, IfErr};
 ghost use Rattle.std.specs.FinMap as map;
 ghost use Rattle.std.specs.Result.{result_err};
-ghost use Rattle.mds_types.specs.History.{after};
+ghost use Rattle.mds_types.specs.Tree.{Tree};
+ghost use Rattle.mds_types.specs.declared.entries.Entry.{Entry as Applied};
 ghost use Rattle.objstore.specs.Objects.{faults_told};
 ghost use Rattle.cluster_core.specs.Flush.{AreExact, Flushes, IsColdTree, KeepsCore, MayNotFlush};
-ghost use Rattle.cluster_core.specs.Sound.{AreCached, AreExported, IsSoundWith, IsSoundBook};
+ghost use Rattle.cluster_core.specs.Sound.{AreCached, AreExported, StandsBehind, IsSoundKept, IsSoundWith};
 ghost use Rattle.cluster_core.specs.State.{shown};
 
 use crate::books::Book;
@@ -58,15 +59,15 @@ pub fn flush<S: Store + Drop>(
     alloc: Global,
     book: &mut Book<S>,
 ) -> Result<(), Refusal>
-    ensures cold { OnOk result
-        (IsColdTree book.new.core.state.tree.objects
-        (after book.old.core.state.tree.limit book.old.opening book.old.history)) }
+    ensures cold { OnOk result (IsColdTree book.new.core.state.tree.objects (shown book.old.core.state)) }
     ensures exact { OnOk result (AreExact book.new.core.state.tree) }
     ensures clean { OnOk result (book.new.core.state.tree.unsaved ≡ map.empty) }
     ensures purged { OnOk result (book.new.core.state.tree.purge ≡ map.empty) }
     ensures outcome { Flushes book.old book.new result }
     ensures counted { book.new.core.faults ≡ book.old.core.faults + faults_told (result_err result) }
-    ensures sound { IsSoundBook book.new }
+    ensures goes_on { (opening : Tree) (past : List Applied) → StandsBehind opening past book.old
+        → StandsBehind opening past book.new }
+    ensures sound { IsSoundKept book.new }
 {
     if !book.cluster.has_no_export() {
         return Err(Refusal::NotClean);

@@ -1,7 +1,10 @@
 //! A request that waits is given up.
+ghost use Rattle.std.specs.Prelude.{List};
+ghost use Rattle.mds_types.specs.Tree.{Tree};
+ghost use Rattle.mds_types.specs.declared.entries.Entry.{Entry as Applied};
 ghost use Rattle.inboxes.specs.Inboxes.{waiting_at};
 ghost use Rattle.cluster_core.specs.GivenUp.{GivesUp, GivesUpIn};
-ghost use Rattle.cluster_core.specs.Sound.{IsSoundBook};
+ghost use Rattle.cluster_core.specs.Sound.{StandsBehind, IsSoundKept};
 
 use crate::books::Book;
 use crate::clusters::Cluster;
@@ -23,7 +26,9 @@ impl<S: Store + Drop> Cluster<S> {
 /// never come. Nothing else changes, and nothing is told.
 pub fn give_up<S: Store + Drop>(book: &mut Book<S>, rank: Rank)
     ensures given { GivesUp book.old book.new rank }
-    ensures sound { IsSoundBook book.new }
+    ensures goes_on { (opening : Tree) (past : List Applied) → StandsBehind opening past book.old
+        → StandsBehind opening past book.new }
+    ensures sound { IsSoundKept book.new }
 {
     book.cluster.give_up(rank);
 }

@@ -1,6 +1,7 @@
 //! Laws of steps, each the contract of a function that does nothing.
 ghost use Rattle.cluster_core.specs.Checks.{MergesByChecks, SplitsByChecks};
 ghost use Rattle.cluster_core.specs.Commits.{JobsKeepObjects, JobsTakeWhatIsShown};
+ghost use Rattle.cluster_core.specs.Forgetting.{ABeginningMayGo, AllIsOneHistory, NoneIsNewAgain};
 ghost use Rattle.cluster_core.specs.Exporting.{ImportsWhatIsTold, TellsOneBytes, TellsWhatSendGave};
 ghost use Rattle.cluster_core.specs.Teeth.{OneThreadInventsNothing, OneThreadTellsAll};
 
@@ -41,4 +42,12 @@ pub fn splits_by_checks()
 /// So is a merge.
 pub fn merges_by_checks()
     ensures { MergesByChecks }
+{}
+
+/// A beginning of the history may be forgotten at any time. All entries, forgotten or not, are one legal history, and no
+/// request that was applied is new again: where its reply isn't kept any more it is too old.
+pub fn a_beginning_may_be_forgotten()
+    ensures whole { AllIsOneHistory }
+    ensures forgotten { ABeginningMayGo }
+    ensures repeats { NoneIsNewAgain }
 {}

@@ -10,6 +10,7 @@ mod clusters;
 mod events;
 mod exporting;
 mod flushing;
+mod forgetting;
 mod giving_up;
 mod going_on;
 mod granting;

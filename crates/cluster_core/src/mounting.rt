@@ -1,6 +1,6 @@
 //! A cluster and a book over a store as it is found.
-ghost use Rattle.std.specs.Prelude.{◌≡◌, ◌+◌, ◌≤◌, [], length, IfOk, IfErr};
-ghost use Rattle.std.specs.FinMap as map;
+ghost use Rattle.std.specs.Prelude.{◌≡◌, ◌+◌, ◌≤◌, [], length, Some, IfOk, IfErr};
+ghost use Rattle.sessions.specs.Table.{no_table};
 ghost use Rattle.sorted_map.specs.SortedMap.{contents};
 ghost use Rattle.mds_types.specs.Tree.{dentry_cmp};
 ghost use Rattle.objstore.specs.Objects.{faults_in};
@@ -11,7 +11,7 @@ ghost use Rattle.ranked_tree.specs.Exported.{StandSoundly};
 ghost use Rattle.ranked_tree.specs.Held.{IsOwned};
 ghost use Rattle.ranked_tree.specs.Ranked.{held_roots};
 ghost use Rattle.cluster_core.specs.Mounted.{MountsCore};
-ghost use Rattle.cluster_core.specs.Sound.{IsSound, IsSoundBook};
+ghost use Rattle.cluster_core.specs.Sound.{StandsBehind, IsSound, IsSoundKept};
 ghost use Rattle.cluster_core.specs.State.{core_of, shown};
 
 use crate::books::Book;
@@ -87,7 +87,7 @@ impl<S: Store + Drop> Cluster<S> {
         waiting: Waiting,
     ) -> (Cluster<S>, PlainTree)
         ensures core { result.0 ≡ core_of tree.tree tree.subtrees.roots tree.exports opening.numbers.items
-            waiting.inboxes waiting.pins map.empty }
+            waiting.inboxes waiting.pins no_table }
         ensures opening { result.1 ≡ contents dentry_cmp opening.entries }
         ensures owned { IsOwned tree.tree (held_roots tree) }
         ensures stand { StandSoundly (tree_state tree.tree) (length tree.tree.caches.used) tree.subtrees tree.exports }
@@ -127,12 +127,14 @@ pub fn mount<S: Store + Drop>(
     requires least { 512 ≤ cache }
     requires most { cache ≤ 65536 }
     ensures limit { IfOk result (λ book. book.core.state.tree.limit ≡ limit) }
-    ensures mounted { IfOk result (λ book. MountsCore limit (S.objects store) ranks cache book.opening book.core) }
+    ensures mounted { IfOk result
+        (λ book. MountsCore limit (S.objects store) ranks cache (shown book.core.state) book.core) }
     ensures cold { IfOk result (λ book. IsColdTree (S.objects store) (shown book.core.state)) }
-    ensures opening { IfOk result (λ book. book.opening ≡ shown book.core.state) }
+    ensures opening { IfOk result (λ book. book.opening ≡ Some (shown book.core.state)) }
+    ensures goes_on { IfOk result (λ book. StandsBehind (shown book.core.state) [] book) }
     ensures history { IfOk result (λ book. book.history ≡ []) }
     ensures objects { IfOk result (λ book. book.core.state.tree.objects ≡ S.objects store) }
-    ensures sound { IfOk result IsSoundBook }
+    ensures sound { IfOk result IsSoundKept }
     ensures faults { IfOk result (λ book. book.core.faults ≡ S.faults store) }
     ensures refused { IfErr result (λ back. MayNotMount (S.objects store) (S.faults store) (S.faults back.1) back.0) }
     ensures left { IfErr result (λ back. S.objects back.1 ≡ S.objects store) }
@@ -142,7 +144,7 @@ pub fn mount<S: Store + Drop>(
         Ok((cluster, opening)) => Ok(Book {
             cluster,
             history: Vec::new(alloc),
-            opening,
+            opening: Some(opening),
             settled: Settled::new(alloc),
         }),
         Err(back) => Err(back),

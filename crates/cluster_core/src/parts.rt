@@ -2,8 +2,8 @@
 ghost use Rattle.std.specs.Prelude.{◌≡◌, ◌<◌, [], length, get_or, replicate, IfOk};
 ghost use Rattle.inboxes.specs.Inboxes.{waiting_at};
 ghost use Rattle.cluster_core.specs.Serve.{AtFront, HasLeft};
-ghost use Rattle.std.specs.FinMap as map;
 ghost use Rattle.sessions.specs.Rooms.{table};
+ghost use Rattle.sessions.specs.Table.{no_table};
 ghost use Rattle.cluster_core.specs.State.{no_supply};
 
 use inboxes::{Inboxes, Pins};
@@ -57,7 +57,7 @@ impl Given {
     /// No reply was given, and these numbers are left.
     pub(crate) fn of(alloc: Global, numbers: Vec<Numbers>) -> Given
         ensures numbers { result.numbers.items ≡ numbers.items }
-        ensures sessions { table result.sessions ≡ map.empty }
+        ensures sessions { table result.sessions ≡ no_table }
     {
         Given {
             numbers,

@@ -1,11 +1,13 @@
 //! Serving the request at the front of a rank's inbox.
-ghost use Rattle.std.specs.Prelude.{◌≡◌, ◌+◌, ◌↔◌, ◌<◌, IsTrue, length, get_or};
+ghost use Rattle.std.specs.Prelude.{◌≡◌, ◌+◌, ◌++◌, ◌↔◌, ◌<◌, IsTrue, List, length, get_or};
 ghost use Rattle.objstore.specs.Objects.{faults_told};
 ghost use Rattle.std.specs.Result.{result_err};
 ghost use Rattle.inboxes.specs.Inboxes.{waiting_at};
 ghost use Rattle.inode_table.specs.Numbers.{offer};
 ghost use Rattle.namespace_ops.specs.Changes.{IsOffered};
 ghost use Rattle.namespace_ops.specs.Places.{AreLocated};
+ghost use Rattle.mds_types.specs.declared.entries.Entry.{Entry as Applied};
+ghost use Rattle.sessions.specs.Aside.{AreSetAside};
 ghost use Rattle.sessions.specs.Table.{IsTableOf};
 ghost use Rattle.sessions.specs.Rooms.{table};
 ghost use Rattle.dirfrag_codec.specs.EntryRecord.{IsRankNumber};
@@ -13,7 +15,7 @@ ghost use Rattle.mdcache.specs.Core.{state_of as tree_state};
 ghost use Rattle.mdcache.specs.Shown.{shown_tree};
 ghost use Rattle.cluster_core.specs.State.{no_supply, state_of};
 ghost use Rattle.cluster_core.specs.Serve.{AtFront, ForwardsTo, Repeats, ServesInbox};
-ghost use Rattle.cluster_core.specs.Asked.{IsAsked};
+ghost use Rattle.cluster_core.specs.Asked.{IsAsked, IsNewTo};
 ghost use Rattle.cluster_core.specs.Master.{AreMastersThere};
 ghost use Rattle.cluster_core.specs.Uses.{UsesFront};
 ghost use Rattle.ranked_tree.specs.Ranked.{held_roots, MayRefuse};
@@ -45,19 +47,21 @@ pub(crate) fn serve_front<S: Store + Drop>(
     history: &mut Vec<Entry>,
     rank: Rank,
 ) -> Result<Answer, Refusal>
-    requires known { IsTableOf history.old.items (table given.old.sessions) }
+    requires known { (past : List Applied) × IsTableOf (past ++ history.old.items) (table given.old.sessions)
+        × AreSetAside past history.old.items (table given.old.sessions) }
     requires offered { IsOffered (shown_tree (tree_state tree.old.tree)) (λ n. IsRankNumber n)
         (offer (get_or given.old.numbers.items rank.0 no_supply)) }
     requires there { rank.0 < length given.old.numbers.items }
     requires masters { AreMastersThere (tree_state tree.old.tree) tree.old.subtrees.roots rank
         (length waiting.old.inboxes) }
     requires valid { AreRoots (tree_state tree.old.tree) tree.old.subtrees.roots }
-    ensures served { ServesInbox
+    ensures served { (past : List Applied) → IsTableOf (past ++ history.old.items) (table given.old.sessions)
+        → AreSetAside past history.old.items (table given.old.sessions) → ServesInbox
         (state_of (tree_state tree.old.tree) tree.old.subtrees.roots tree.old.exports given.old.numbers.items
         waiting.old.inboxes waiting.old.pins (table given.old.sessions))
         (state_of (tree_state tree.new.tree) tree.new.subtrees.roots tree.new.exports given.new.numbers.items
-        waiting.new.inboxes waiting.new.pins (table given.new.sessions)) history.old.items history.new.items
-        (MayRefuse tree.old tree.new) rank result (waiting_at waiting.old.inboxes rank) }
+        waiting.new.inboxes waiting.new.pins (table given.new.sessions)) (past ++ history.old.items)
+        (past ++ history.new.items) (MayRefuse tree.old tree.new) rank result (waiting_at waiting.old.inboxes rank) }
     ensures uses { UsesFront (tree_state tree.old.tree) (tree_state tree.new.tree)
         (held_roots tree.old) tree.old.tree.caches tree.new.tree.caches result (waiting_at waiting.old.inboxes rank) }
     ensures kept { KeepsRoots (tree_state tree.old.tree)
@@ -107,7 +111,10 @@ fn serve_new<S: Store + Drop>(
 ) -> Result<Answer, Refusal>
     requires asked { AtFront
         (λ request rest. IsAsked (tree_state tree.old.tree) tree.old.subtrees.roots given.old.numbers.items
-        given.old.sessions history.old.items asked.now request) (waiting_at waiting.old.inboxes asked.now.rank) }
+        given.old.sessions asked.now request) (waiting_at waiting.old.inboxes asked.now.rank) }
+    requires is_new { (past : List Applied) × (length past ≡ (table given.old.sessions).forgotten)
+        × AtFront (λ request rest. IsNewTo (past ++ history.old.items) request)
+        (waiting_at waiting.old.inboxes asked.now.rank) }
     requires located { AtFront
         (λ request rest. AreLocated (shown_tree (tree_state tree.old.tree)) tree.old.tree.covers
         (HoldsAt (tree_state tree.old.tree) (held_roots tree.old)) request.op places)
@@ -116,12 +123,15 @@ fn serve_new<S: Store + Drop>(
         (λ n. IsRankNumber n) (offer asked.now.supply) }
     requires there { asked.now.rank.0 < length given.old.numbers.items }
     requires valid { AreRoots (tree_state tree.old.tree) tree.old.subtrees.roots }
-    ensures served { ServesInbox
+    ensures served { (past : List Applied) → length past ≡ (table given.old.sessions).forgotten
+        → AtFront (λ request rest. IsNewTo (past ++ history.old.items) request)
+        (waiting_at waiting.old.inboxes asked.now.rank) → ServesInbox
         (state_of (tree_state tree.old.tree) tree.old.subtrees.roots tree.old.exports given.old.numbers.items
         waiting.old.inboxes waiting.old.pins (table given.old.sessions))
         (state_of (tree_state tree.new.tree) tree.new.subtrees.roots tree.new.exports given.new.numbers.items
-        waiting.new.inboxes waiting.new.pins (table given.new.sessions)) history.old.items history.new.items
-        (MayRefuse tree.old tree.new) asked.now.rank result (waiting_at waiting.old.inboxes asked.now.rank) }
+        waiting.new.inboxes waiting.new.pins (table given.new.sessions)) (past ++ history.old.items)
+        (past ++ history.new.items) (MayRefuse tree.old tree.new) asked.now.rank result
+        (waiting_at waiting.old.inboxes asked.now.rank) }
     ensures uses { UsesFront (tree_state tree.old.tree) (tree_state tree.new.tree)
         (held_roots tree.old) tree.old.tree.caches tree.new.tree.caches result
         (waiting_at waiting.old.inboxes asked.now.rank) }

@@ -1,3 +1,5 @@
+pub mod AsideLaws
 pub mod Common
 pub mod RowLaws
 pub mod TableLaws
+pub mod WalkLaws

@@ -1,5 +1,5 @@
 -- What the table without its rooms says of the sessions with them.
-use Rattle.sessions.proofs.Common.{AreIndexed, Bool, List, None, Option, Row, Session, Some, T, [], ap, ap₂, arith, below_all, cond, entries_sorted, eq-eqb, eq_by_cmp, eqb-true, false, false≢true, find, get-empty, get-entries, get-from_sorted, get-insert, get_or, get_or-append_seam, get_or-set_at, get_or-set_other, get_or_append_left, get_or_default, is_lt, is_sorted, length, length-append, nat_cmp, nat_cmp-IsAntisymmetric, nat_cmp_total, no_row, no_session, none-some, noted, noted_row, option_map, refl, row_at, row_in, row_or_none, same_Some, same_map, set, subst, sym, trimmed, trimmed_found, trimmed_row, true, unsigned_tied, ℕ, ◌&&◌, ◌++◌, ◌<◌, ◌==◌, ◌∙◌, ◌∷◌, ◌≡◌, ◌≢◌}
+use Rattle.sessions.proofs.Common.{AreIndexed, Bool, Entry, List, None, Option, Reply, Row, Rows, Table, Session, Some, T, [], ap, ap₂, arith, below_all, cond, entries_sorted, eq-eqb, eq_by_cmp, eqb-true, false, false≢true, find, forget_first, get-empty, get-entries, get-from_sorted, get-insert, get-retain_keys, get_or, get_or-append_seam, get_or-set_at, get_or-set_other, get_or_append_left, get_or_default, is_kept_at, is_from, is_lt, is_sorted, length, length-append, nat_cmp, nat_cmp-IsAntisymmetric, nat_cmp_total, no_row, no_session, none-some, noted, noted_row, option_map, refl, row_at, row_or_none, row_with_aside, same_Some, same_map, set, subst, sym, trimmed_found, trimmed_row, true, unsigned_tied, ℕ, ◌&&◌, ◌++◌, ◌<◌, ◌==◌, ◌∙◌, ◌∷◌, ◌≡◌, ◌≢◌}
 use Rattle.std.proofs.Common.{map as list_map}
 use Rattle.std.specs.FinMap as map
 use Rattle.sessions.specs.Rooms.{rows}
@@ -32,6 +32,13 @@ get-rows m ss client =
     ∙ find_bare ss client (map.entries m)
     ∙ ap (option_map (row_at ss)) (sym (get-entries m client))
 
+-- the table of these rows
+abbrev pub behind : ℕ → Rows → Table
+behind forgotten rows = record { forgotten = forgotten; rows = rows }
+
+pub same_behind : (f : ℕ) (r s : Rows) → r ≡ s → behind f r ≡ behind f s
+same_behind f r s e = ap (behind f) e
+
 -- no sessions have no rows, and each a place of its own
 pub rows-empty : rows map.empty [] ≡ map.empty
 rows-empty = same_map nat_cmp_total nat_cmp-IsAntisymmetric _ _ (λ q.
@@ -43,16 +50,29 @@ indexed_none = record {
   apart = λ one other i is _. absurd (none-some i (sym (get-empty nat_cmp one) ∙ is));
 }
 
+-- where nothing is set aside nothing is below a mark
+pub none_left : (m : map.FinMap nat_cmp Reply) (mark : ℕ) → m ≡ map.empty → m ≡ map.retain_keys m (is_from nat_cmp mark)
+none_left m mark none = same_map nat_cmp_total nat_cmp-IsAntisymmetric _ _ (λ q. at q ∙ sym (
+    get-retain_keys m (is_from nat_cmp mark) q (λ x t. ap (is_from nat_cmp mark) (sym (nat_cmp-IsAntisymmetric q x t)))
+    ∙ ap (λ o. cond (is_from nat_cmp mark q) o None) (at q) ∙ go (is_from nat_cmp mark q)))
+  where
+    at : (q : ℕ) → map.get m q ≡ None
+    at q = ap (λ (n : map.FinMap nat_cmp Reply). map.get n q) none ∙ get-empty nat_cmp q
+
+    go : (b : Bool) → cond {A = Option Reply} b None None ≡ None
+    go true = refl
+    go false = refl
+
 -- with a client more
 pub get_with : (m : map.FinMap nat_cmp ℕ) (client n q : ℕ) → map.get (map.insert m client n) q ≡ cond (q == client) (Some n) (map.get m q)
 get_with m client n q = get-insert nat_cmp_total m client n q ∙ ap (λ b. cond b (Some n) (map.get m q)) (unsigned_tied q client)
 
 module _ (m : map.FinMap nat_cmp ℕ) (ss : List Session) (client : ℕ) where
   -- a client that has a session, and one that has none
-  pub row_known : (i : ℕ) → map.get m client ≡ Some i → row_in (rows m ss) client ≡ row_at ss i
+  pub row_known : (i : ℕ) → map.get m client ≡ Some i → row_or_none (map.get (rows m ss) client) ≡ row_at ss i
   row_known i is = ap row_or_none (get-rows m ss client ∙ ap (option_map (row_at ss)) is)
 
-  pub row_unknown : map.get m client ≡ None → row_in (rows m ss) client ≡ no_row
+  pub row_unknown : map.get m client ≡ None → row_or_none (map.get (rows m ss) client) ≡ no_row
   row_unknown is = ap row_or_none (get-rows m ss client ∙ ap (option_map (row_at ss)) is)
 
   module _ (h : AreIndexed m ss) (i : ℕ) (its : map.get m client ≡ Some i) (w : Session) where
@@ -98,18 +118,39 @@ module _ (m : map.FinMap nat_cmp ℕ) (ss : List Session) (client : ℕ) where
         go (Some j) = ap Some (at j (j == i) refl)
 
     -- with one more reply, and without the replies below its mark
-    pub noted_known : (s : Session) → s ≡ get_or ss i s → (tid oldest place : ℕ) → w.row ≡ noted_row s.row tid oldest place
-        → rows m (set ss i w) ≡ noted (rows m ss) client tid oldest place
-    noted_known s found tid oldest place is =
+    pub noted_known : (f : ℕ) (s : Session) → s ≡ get_or ss i s → (tid oldest place : ℕ) → w.row ≡ noted_row s.row tid oldest place
+        → rows m (set ss i w) ≡ (noted (behind f (rows m ss)) client tid oldest place).rows
+    noted_known f s found tid oldest place is =
         written ∙ ap (map.insert (rows m ss) client) (is ∙ ap (λ row. noted_row row tid oldest place) (read s found ∙ sym (row_known i its)))
 
-    pub trimmed_known : (s : Session) → s ≡ get_or ss i s → w.row ≡ trimmed_row s.row → rows m (set ss i w) ≡ trimmed (rows m ss) client
+    pub trimmed_known : (s : Session) → s ≡ get_or ss i s → w.row ≡ trimmed_row s.row → rows m (set ss i w) ≡ trimmed_found (rows m ss) client (map.get (rows m ss) client)
     trimmed_known s found less =
         written ∙ ap (map.insert (rows m ss) client) (less ∙ ap trimmed_row (read s found))
         ∙ ap (trimmed_found (rows m ss) client) (sym (get-rows m ss client ∙ ap (option_map (row_at ss)) its))
 
+    -- and with a reply set aside, if it's kept
+    pub kept_known : (s : Session) → s ≡ get_or ss i s → (f tid : ℕ) → is_kept_at f (map.get s.row.kept tid) ≡ is_kept_at f (map.get (row_or_none (map.get (rows m ss) client)).kept tid)
+    kept_known s found f tid = ap (λ (r : Row). is_kept_at f (map.get r.kept tid)) (read s found ∙ sym (row_known i its))
+
+    pub forgot_known : (s : Session) → s ≡ get_or ss i s → (f : ℕ) (e : Entry) → e.client ≡ client → w.row ≡ cond (is_kept_at f (map.get s.row.kept e.tid)) (row_with_aside s.row e.tid e.reply) s.row
+        → rows m (set ss i w) ≡ (forget_first (behind f (rows m ss)) e).rows
+    forgot_known s found f e mine is =
+        rw mine (go (is_kept_at f (map.get s.row.kept e.tid)) refl is ∙ ap (λ b. cond b (map.insert (rows m ss) client (row_with_aside (row_or_none (map.get (rows m ss) client)) e.tid e.reply)) (rows m ss)) (kept_known s found f e.tid))
+      where
+        go : (b : Bool) → is_kept_at f (map.get s.row.kept e.tid) ≡ b → w.row ≡ cond b (row_with_aside s.row e.tid e.reply) s.row
+            → rows m (set ss i w) ≡ cond b (map.insert (rows m ss) client (row_with_aside (row_or_none (map.get (rows m ss) client)) e.tid e.reply)) (rows m ss)
+        go true _ made = written ∙ ap (map.insert (rows m ss) client) (made ∙ ap (λ row. row_with_aside row e.tid e.reply) (read s found ∙ sym (row_known i its)))
+        go false _ made = same_rows s found made
+
+  -- nothing is kept of a client that has none
+  pub kept_unknown : map.get m client ≡ None → (f tid : ℕ) → false ≡ is_kept_at f (map.get (row_or_none (map.get (rows m ss) client)).kept tid)
+  kept_unknown is f tid = ap (is_kept_at f) (sym (get-empty nat_cmp tid)) ∙ ap (λ (r : Row). is_kept_at f (map.get r.kept tid)) (sym (row_unknown is))
+
+  pub forgot_unknown : map.get m client ≡ None → (f : ℕ) (e : Entry) → e.client ≡ client → rows m ss ≡ (forget_first (behind f (rows m ss)) e).rows
+  forgot_unknown is f e mine = rw mine (ap (λ b. cond b (map.insert (rows m ss) client (row_with_aside (row_or_none (map.get (rows m ss) client)) e.tid e.reply)) (rows m ss)) (kept_unknown is f e.tid))
+
   -- no session
-  pub trimmed_unknown : map.get m client ≡ None → rows m ss ≡ trimmed (rows m ss) client
+  pub trimmed_unknown : map.get m client ≡ None → rows m ss ≡ trimmed_found (rows m ss) client (map.get (rows m ss) client)
   trimmed_unknown is = ap (trimmed_found (rows m ss) client) (sym (get-rows m ss client ∙ ap (option_map (row_at ss)) is))
 
   -- the first session of a client comes
@@ -145,7 +186,7 @@ module _ (m : map.FinMap nat_cmp ℕ) (ss : List Session) (client : ℕ) where
         go q false None is = refl
         go q false (Some j) is = ap (λ (s : Session). Some s.row) (get_or_append_left ss (w ∷ []) no_session j (h.in_range q j is))
 
-    pub noted_first : (fresh : Row) (tid oldest place : ℕ) → map.get m client ≡ None → fresh ≡ no_row → w.row ≡ noted_row fresh tid oldest place
-        → rows (map.insert m client (length ss)) (ss ++ w ∷ []) ≡ noted (rows m ss) client tid oldest place
-    noted_first fresh tid oldest place is none more =
+    pub noted_first : (f : ℕ) (fresh : Row) (tid oldest place : ℕ) → map.get m client ≡ None → fresh ≡ no_row → w.row ≡ noted_row fresh tid oldest place
+        → rows (map.insert m client (length ss)) (ss ++ w ∷ []) ≡ (noted (behind f (rows m ss)) client tid oldest place).rows
+    noted_first f fresh tid oldest place is none more =
         rows_more ∙ ap (map.insert (rows m ss) client) (more ∙ ap (λ row. noted_row row tid oldest place) (none ∙ sym (row_unknown is)))

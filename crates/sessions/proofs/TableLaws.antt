@@ -1,5 +1,5 @@
 -- Laws of the table: that of no requests, that with one more, and what it tells.
-use Rattle.sessions.proofs.Common.{Bool, Entry, Equal, Greater, IsKeptFor, IsSeen, IsTableOf, Kept, Less, List, New, None, Option, Ordering, Row, Seen, SeesInRow, IsPairAt, Some, Table, Trimmed, [], ap, arith, cond, eq-eqb, eq_by_cmp, eqb-true, false, false≢true, get-empty, get-insert, get-retain_keys, get_or-append_seam, get_or_append_left, inl, inr, is_from, is_le, is_pair, kept_in, le_from_is_le, length, length-append, list_any-append, mark, max, nat_cmp, nat_cmp-IsAntisymmetric, nat_cmp_total, nat_eq_equiv, noted, noted_row, or-false, ranked, refl, row_in, row_or_none, subst, sym, trimmed, trimmed_found, trimmed_row, true, unsigned_tied, ℕ, ⊎_elim, ◌&&◌, ◌++◌, ◌<◌, ◌==◌, ◌||◌, ◌∙◌, ◌∷◌, ◌≡◌, ◌≤◌}
+use Rattle.sessions.proofs.Common.{AreSetAside, IsAsideFor, IsReplyAt, IsReplyIn, Reply, aside_in, get_or-append-add, no_table, none-some, same_Some, slice_index_or, ◌+◌, ◌-◌, Bool, Entry, Equal, Greater, IsKeptFor, IsSeen, IsTableOf, Kept, Less, List, New, None, Option, Ordering, Row, Seen, SeesInRow, IsPairAt, Some, Table, Trimmed, [], ap, arith, cond, eq-eqb, eq_by_cmp, eqb-true, false, false≢true, get-empty, get-insert, get-retain_keys, get_or-append_seam, get_or_append_left, inl, inr, is_from, is_le, is_pair, kept_in, le_from_is_le, length, length-append, list_any-append, mark, max, nat_cmp, nat_cmp-IsAntisymmetric, nat_cmp_total, nat_eq_equiv, noted, noted_row, or-false, ranked, refl, row_in, row_or_none, subst, sym, trimmed, trimmed_found, trimmed_row, true, unsigned_tied, ℕ, ⊎_elim, ◌&&◌, ◌++◌, ◌<◌, ◌==◌, ◌||◌, ◌∙◌, ◌∷◌, ◌≡◌, ◌≤◌}
 use Rattle.std.specs.FinMap as map
 
 is_from_le : {a b : ℕ} → a ≤ b → is_le (nat_cmp a b) ≡ true
@@ -27,39 +27,57 @@ mark-push (x ∷ past) e client =
     go false false m = refl
 
 -- the table of no requests
-pub table-none : IsTableOf [] map.empty
+pub table-none : IsTableOf [] no_table
 table-none = record {
   marks = λ client. ap (λ (o : Option Row). (row_or_none o).mark) (get-empty nat_cmp client);
   replies = λ client tid. rw (get-empty nat_cmp client) (rw (get-empty nat_cmp tid) (λ _. refl));
 }
 
--- what the table tells is what the history tells
-pub sees : (history : List Entry) (table : Table) (client tid oldest : ℕ) (seen : Seen) → IsTableOf history table → SeesInRow history (row_in table client) tid oldest seen → IsSeen history client tid oldest seen
-sees history table client tid oldest Trimmed h s = ⊎_elim (λ below. inl (subst (λ m. tid < m) (h.marks client) below)) inr s
-sees history table client tid oldest (Kept place reply) h (marked, own, is, same) =
-    let kept = subst (IsKeptFor history client tid) is (h.replies client tid) in
-    (record { marked = kept.0; own = own; at = kept.1 }, same)
-sees history table client tid oldest (New at) h (marked, own, is) =
-    let above = subst (λ m. m ≤ tid) (h.marks client) marked in
-    record { marked = above; own = own; absent = subst (IsKeptFor history client tid) is (h.replies client tid) above }
+-- the reply that was set aside, or that of the entry which isn't forgotten, is that of its place
+told_at : (past history : List Entry) (forgotten place : ℕ) → length past ≡ forgotten → (o : Option ℕ) → o ≡ Some place → (a : Option Reply) → (reply : Reply)
+    → IsAsideFor (past ++ history) forgotten o a → IsReplyIn history forgotten place a reply → IsReplyAt (past ++ history) place reply
+told_at past history forgotten place long None is a reply h told = absurd (none-some place is)
+told_at past history forgotten place long (Some at) is (Some aside) reply (_, h) told = λ e.
+    told ∙ h e ∙ ap (λ n. (slice_index_or (past ++ history) n e).reply) (same_Some at place is)
+told_at past history forgotten place long (Some at) is None reply h told = λ e.
+    let low : forgotten ≤ place = subst (λ n. forgotten ≤ n) (same_Some at place is) h in
+    let behind : length past + (place - forgotten) ≡ place = omega (arith, low, long) in
+    told e ∙ ap (λ (x : Entry). x.reply) (sym (get_or-append-add past history (place - forgotten) e) ∙ ap (λ n. slice_index_or (past ++ history) n e) behind)
 
--- what is kept stands in the history
-pub kept_within : (history : List Entry) (table : Table) (client tid place : ℕ) → IsTableOf history table → map.get (row_in table client).kept tid ≡ Some place → place < length history
-kept_within history table client tid place h is = let kept = subst (IsKeptFor history client tid) is (h.replies client tid) in kept.1.in_range
+-- what the table tells is what the history tells
+pub sees : (past history : List Entry) (table : Table) (client tid oldest : ℕ) (seen : Seen) → IsTableOf (past ++ history) table → AreSetAside past history table
+    → SeesInRow history table.forgotten (row_in table client) tid oldest seen → IsSeen (past ++ history) client tid oldest seen
+sees past history table client tid oldest Trimmed h aside s = ⊎_elim (λ below. inl (subst (λ m. tid < m) (h.marks client) below)) inr s
+sees past history table client tid oldest (Kept place reply) h aside (marked, own, is, told) =
+    let kept = subst (IsKeptFor (past ++ history) client tid) is (h.replies client tid) in (
+      record { marked = kept.0; own = own; at = kept.1 },
+      told_at past history table.forgotten place aside.before (kept_in table client tid) is (aside_in table client tid) reply.now (aside.aside client tid) told,
+    )
+sees past history table client tid oldest (New at) h aside (marked, own, is) =
+    let above = subst (λ m. m ≤ tid) (h.marks client) marked in
+    record { marked = above; own = own; absent = subst (IsKeptFor (past ++ history) client tid) is (h.replies client tid) above }
+
+-- what is kept and isn't set aside stands in the rest of the history
+pub kept_within : (past history : List Entry) (table : Table) (client tid place : ℕ) → IsTableOf (past ++ history) table → AreSetAside past history table
+    → map.get (row_in table client).kept tid ≡ Some place → map.get (row_in table client).aside tid ≡ None → (table.forgotten ≤ place) × (place - table.forgotten < length history)
+kept_within past history table client tid place h aside is none =
+    let kept = subst (IsKeptFor (past ++ history) client tid) is (h.replies client tid) in
+    let low : table.forgotten ≤ place = subst (IsAsideFor (past ++ history) table.forgotten (Some place)) none (subst (λ o. IsAsideFor (past ++ history) table.forgotten o (aside_in table client tid)) is (aside.aside client tid)) in
+    (low, omega (arith, low, kept.1.in_range, length-append past history, aside.before))
 
 -- a client's row once a request was applied
-row_after : (table : Table) (client tid oldest place q : ℕ) →
+pub row_after : (table : Table) (client tid oldest place q : ℕ) →
     row_in (trimmed (noted table client tid oldest place) client) q ≡ cond (q == client) (trimmed_row (noted_row (row_in table client) tid oldest place)) (row_in table q)
 row_after table client tid oldest place q =
     let row = noted_row (row_in table client) tid oldest place in
-    let there = get-insert nat_cmp_total table client row client ∙ ap (λ b. cond b (Some row) (map.get table client)) (unsigned_tied client client ∙ eq-eqb client client refl) in
-    ap (λ o. row_in (trimmed_found (map.insert table client row) client o) q) there
-    ∙ ap row_or_none (get-insert nat_cmp_total (map.insert table client row) client (trimmed_row row) q
-    ∙ ap (cond (eq_by_cmp nat_cmp q client) (Some (trimmed_row row))) (get-insert nat_cmp_total table client row q)
-    ∙ ap (λ b. cond b (Some (trimmed_row row)) (cond b (Some row) (map.get table q))) (unsigned_tied q client))
+    let there = get-insert nat_cmp_total table.rows client row client ∙ ap (λ b. cond b (Some row) (map.get table.rows client)) (unsigned_tied client client ∙ eq-eqb client client refl) in
+    ap (λ o. row_or_none (map.get (trimmed_found (map.insert table.rows client row) client o) q)) there
+    ∙ ap row_or_none (get-insert nat_cmp_total (map.insert table.rows client row) client (trimmed_row row) q
+    ∙ ap (cond (eq_by_cmp nat_cmp q client) (Some (trimmed_row row))) (get-insert nat_cmp_total table.rows client row q)
+    ∙ ap (λ b. cond b (Some (trimmed_row row)) (cond b (Some row) (map.get table.rows q))) (unsigned_tied q client))
     ∙ go row (q == client)
   where
-    go : (row : Row) (b : Bool) → row_or_none (cond b (Some (trimmed_row row)) (cond b (Some row) (map.get table q))) ≡ cond b (trimmed_row row) (row_in table q)
+    go : (row : Row) (b : Bool) → row_or_none (cond b (Some (trimmed_row row)) (cond b (Some row) (map.get table.rows q))) ≡ cond b (trimmed_row row) (row_in table q)
     go row true = refl
     go row false = refl
 

@@ -1,3 +1,4 @@
+pub mod Aside
 pub mod Rooms
 pub mod Seen
 pub mod Table

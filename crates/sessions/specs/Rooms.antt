@@ -5,16 +5,17 @@ use Rattle.std.specs.FinMap as map
 use Rattle.sessions.specs.declared.found.SessionAt.{SessionAt}
 use Rattle.sessions.specs.declared.clients.Seen.{Seen}
 use Rattle.sessions.specs.declared.clients.Seen.TheVariants.{New, Kept, Trimmed}
-use Rattle.sessions.specs.Table.{Row, Table, no_row}
+use Rattle.sessions.specs.Table.{Row, Rows, Table, no_row}
 
 -- a client's row, and how many more replies fit with no growth
 pub record Session : Type 0 where
   pub row : Row
   pub room : ℕ
 
--- the index of each client's session, the sessions, how many more clients fit, and the session that was set aside for
--- the next
+-- how many entries are forgotten, the index of each client's session, the sessions, how many more clients fit, and the
+-- session that was made ready for the next
 pub record Held : Type 0 where
+  pub forgotten : ℕ
   pub indices : map.FinMap nat_cmp ℕ
   pub sessions : List Session
   pub room : ℕ
@@ -32,19 +33,19 @@ abbrev pub row_at : List Session → ℕ → Row
 row_at sessions i = (session_at sessions i).row
 
 -- the sessions without their rooms, by client
-unfoldable pub rows : map.FinMap nat_cmp ℕ → List Session → Table
+unfoldable pub rows : map.FinMap nat_cmp ℕ → List Session → Rows
 rows indices sessions = map.from_sorted (map (λ e. (e.0, row_at sessions e.1)) (map.entries indices))
 
 -- the table alone
 abbrev pub table : Held → Table
-table held = rows held.indices held.sessions
+table held = record { forgotten = held.forgotten; rows = rows held.indices held.sessions }
 
 -- each client has a session of its own
 pub record AreIndexed (indices : map.FinMap nat_cmp ℕ) (sessions : List Session) : Type 0 where
   pub in_range : (client i : ℕ) → map.get indices client ≡ Some i → i < length sessions
   pub apart : (one other i : ℕ) → map.get indices one ≡ Some i → map.get indices other ≡ Some i → one ≡ other
 
--- room for one more reply: in the session that was found, or for a client more and its session, set aside
+-- room for one more reply: in the session that was found, or for a client more and its session, made ready
 abbrev pub HasRoom : Held → Option ℕ → Type 0
 HasRoom held (Some i) = 0 < (session_at held.sessions i).room
 HasRoom held None = (0 < held.room) × IsSome held.spare

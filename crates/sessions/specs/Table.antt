@@ -5,20 +5,32 @@ use Rattle.std.specs.Ordering.{nat_cmp}
 use Rattle.std.specs.FinMap as map
 use Rattle.sorted_map.specs.SortedMap.{is_from}
 use Rattle.mds_types.specs.declared.entries.Entry.{Entry}
+use Rattle.mds_types.specs.declared.replies.Reply.{Reply}
 use Rattle.mds_types.specs.History.{mark, is_pair, IsPairAt}
 
--- what is known of a client: its mark, and the places of the entries whose replies are kept, by transaction number
+-- what is known of a client: its mark, and by transaction number the places of the entries whose replies are kept, and
+-- those of these replies that were set aside, since their entries are forgotten
 pub record Row : Type 0 where
   pub mark : ℕ
   pub kept : map.FinMap nat_cmp ℕ
+  pub aside : map.FinMap nat_cmp Reply
 
 -- the rows by client
-abbrev pub Table : Type 0
-Table = map.FinMap nat_cmp Row
+abbrev pub Rows : Type 0
+Rows = map.FinMap nat_cmp Row
+
+-- how many entries are forgotten, the first of the history, and the rows by client
+pub record Table : Type 0 where
+  pub forgotten : ℕ
+  pub rows : Rows
+
+-- the table of no history
+abbrev pub no_table : Table
+no_table = record { forgotten = 0; rows = map.empty }
 
 -- the row of a client of which nothing is known
 abbrev pub no_row : Row
-no_row = record { mark = 0; kept = map.empty }
+no_row = record { mark = 0; kept = map.empty; aside = map.empty }
 
 -- the row that was found, or else that one
 abbrev pub row_or_none : Option Row → Row
@@ -27,36 +39,49 @@ row_or_none (Some row) = row
 
 -- what is known of this client,
 abbrev pub row_in : Table → ℕ → Row
-row_in table client = row_or_none (map.get table client)
+row_in table client = row_or_none (map.get table.rows client)
 
 -- its mark,
 abbrev pub mark_in : Table → ℕ → ℕ
 mark_in table client = (row_in table client).mark
 
--- and what is kept for its transaction number
+-- what is kept for its transaction number,
 abbrev pub kept_in : Table → ℕ → ℕ → Option ℕ
 kept_in table client tid = map.get (row_in table client).kept tid
 
+-- and what is set aside for it
+abbrev pub aside_in : Table → ℕ → ℕ → Option Reply
+aside_in table client tid = map.get (row_in table client).aside tid
+
 -- a row with one more reply: the mark rises to the request's oldest
 abbrev pub noted_row : Row → ℕ → ℕ → ℕ → Row
-noted_row row tid oldest place = record { mark = max row.mark oldest; kept = map.insert row.kept tid place }
+noted_row row tid oldest place =
+    record { mark = max row.mark oldest; kept = map.insert row.kept tid place; aside = row.aside }
 
 -- a row without the replies below its mark
 abbrev pub trimmed_row : Row → Row
-trimmed_row row = record { mark = row.mark; kept = map.retain_keys row.kept (is_from nat_cmp row.mark) }
+trimmed_row row = record {
+  mark = row.mark;
+  kept = map.retain_keys row.kept (is_from nat_cmp row.mark);
+  aside = map.retain_keys row.aside (is_from nat_cmp row.mark);
+}
 
 -- the table with one more reply to a client
 abbrev pub noted : Table → ℕ → ℕ → ℕ → ℕ → Table
-noted table client tid oldest place = map.insert table client (noted_row (row_in table client) tid oldest place)
+noted table client tid oldest place = record {
+  forgotten = table.forgotten;
+  rows = map.insert table.rows client (noted_row (row_in table client) tid oldest place);
+}
 
--- the table with the row that was found trimmed
-abbrev pub trimmed_found : Table → ℕ → Option Row → Table
-trimmed_found table client None = table
-trimmed_found table client (Some row) = map.insert table client (trimmed_row row)
+-- the rows with the row that was found trimmed
+abbrev pub trimmed_found : Rows → ℕ → Option Row → Rows
+trimmed_found rows client None = rows
+trimmed_found rows client (Some row) = map.insert rows client (trimmed_row row)
 
 -- the table without a client's replies below its mark
 abbrev pub trimmed : Table → ℕ → Table
-trimmed table client = trimmed_found table client (map.get table client)
+trimmed table client =
+    record { forgotten = table.forgotten; rows = trimmed_found table.rows client (map.get table.rows client) }
 
 -- what is kept for a pair: the place of its entry if it stands in the history and isn't below the mark, and else
 -- nothing

@@ -1,8 +1,9 @@
 //! What is kept for one client.
-ghost use Rattle.std.specs.Prelude.{◌≡◌, ◌<◌, ℕ, Some, length, IsOk, OnOk};
+ghost use Rattle.std.specs.Prelude.{◌≡◌, ◌<◌, ◌≤◌, ◌-◌, ℕ, None, Some, true, false, cond, length, IsOk, OnErr, OnOk};
 ghost use Rattle.std.specs.FinMap as map;
+ghost use Rattle.sessions.specs.Aside.{is_kept_at, row_with_aside};
 ghost use Rattle.sessions.specs.Table.{no_row, noted_row, trimmed_row};
-ghost use Rattle.sessions.specs.Seen.{SeesInRow};
+ghost use Rattle.sessions.specs.Seen.{IsReplyIn, SeesInRow};
 ghost use Rattle.sessions.specs.Rooms.{Held as Table, IsSessionAt, TellsSession};
 
 use crate::found::SessionAt;
@@ -10,23 +11,27 @@ use mds_types::{Entry, Reply};
 use sorted_map::SortedMap;
 use std::alloc::{AllocError, Global};
 use std::marker::Model;
+use std::mem;
 
 /// What a request is to the history of applied requests.
 #[derive(Clone, Copy, Debug, PartialEq, Eq)]
 pub enum Seen<'a> {
     /// It has not been applied. Its client's session is there.
     New(SessionAt),
-    /// It was applied at this place of the history, and answered so.
+    /// It was applied at this place, counted from the first entry ever, and answered so.
     Kept(usize, &'a Reply),
     /// Its transaction number is below its client's mark or below its own oldest.
     Trimmed,
 }
 
-/// A client's mark, and where in the history the replies are that are kept for its transaction numbers.
+/// A client's mark, and at which places the entries are whose replies are kept for its transaction numbers. Those
+/// replies whose entries are forgotten stand in a map of their own: it is mostly empty, and a place takes 8 bytes where
+/// a reply takes 64.
 #[derive(Debug, Drop)]
 pub(crate) struct Client {
     mark: u64,
     kept: SortedMap<u64, usize>,
+    aside: SortedMap<u64, Reply>,
 }
 
 impl Model for Client {
@@ -40,7 +45,10 @@ impl Model for Client {
 
     ghost coded = { Prim.hlevel (codes, map.code) };
 
-    ghost view = { λ c. record { row = record { mark = c.mark; kept = contents nat_cmp c.kept }; room = c.kept.room } };
+    ghost view = { λ c. record {
+      row = record { mark = c.mark; kept = contents nat_cmp c.kept; aside = contents nat_cmp c.aside };
+      room = c.kept.room;
+    } };
 }
 
 impl Client {
@@ -51,6 +59,7 @@ impl Client {
         Client {
             mark: 0,
             kept: SortedMap::new(alloc),
+            aside: SortedMap::new(alloc),
         }
     }
 
@@ -77,26 +86,89 @@ impl Client {
         ensures { self.new.row ≡ trimmed_row self.old.row }
     {
         self.kept.remove_below(&self.mark);
+        if !self.aside.is_empty() {
+            self.aside.remove_below(&self.mark);
+        }
     }
 
-    /// What a request of the client, whose session is there, is to the applied ones, which are the history's.
+    /// What a request of the client, whose session is there, is to the applied ones: so many that are forgotten, and
+    /// then the history's.
     pub(crate) fn seen<'a>(
-        &self,
+        &'a self,
         history: &'a [Entry],
+        forgotten: usize,
         at: SessionAt,
         tid: u64,
         oldest: u64,
     ) -> Seen<'a>
-        requires { (place : ℕ) → map.get self.now.row.kept tid ≡ Some place → place < length history.now }
-        ensures standing { SeesInRow history.entry.now self.now.row tid oldest result }
+        requires { (place : ℕ) → map.get self.now.row.kept tid ≡ Some place → map.get self.now.row.aside tid ≡ None
+            → (forgotten ≤ place) × (place - forgotten < length history.now) }
+        ensures standing { SeesInRow history.entry.now forgotten self.now.row tid oldest result }
         ensures session { (held : Table) → IsSessionAt held at → TellsSession held at.client result }
     {
         if tid < self.mark || tid < oldest {
             return Seen::Trimmed;
         }
         match self.kept.get(&tid) {
-            Some(place) => Seen::Kept(*place, &history[*place].reply),
+            Some(place) => Seen::Kept(*place, self.told(history, forgotten, tid, *place)),
             None => Seen::New(at),
         }
+    }
+
+    // The reply to a transaction number: the one that was set aside, or that of the entry at this place.
+    fn told<'a>(
+        &'a self,
+        history: &'a [Entry],
+        forgotten: usize,
+        tid: u64,
+        place: usize,
+    ) -> &'a Reply
+        requires { map.get self.now.row.aside tid ≡ None
+            → (forgotten ≤ place) × (place - forgotten < length history.now) }
+        ensures { IsReplyIn history.entry.now forgotten place (map.get self.now.row.aside tid) result.now }
+    {
+        match self.aside.get(&tid) {
+            Some(reply) => reply,
+            None => &history[place - forgotten].reply,
+        }
+    }
+
+    /// Whether the reply of the entry at this place is kept for a transaction number.
+    pub(crate) fn keeps(&self, tid: u64, place: usize) -> bool
+        ensures { result ≡ is_kept_at place (map.get self.now.row.kept tid) }
+    {
+        match self.kept.get(&tid) {
+            Some(kept) => *kept == place,
+            None => false,
+        }
+    }
+
+    /// An entry is to be forgotten, which is the one at this place. Where its reply isn't kept nothing is done. Else the
+    /// reply is moved here, if it may be and memory isn't refused; where it isn't, all is as it was, and false is told.
+    pub(crate) fn forget(&mut self, first: &mut Entry, place: usize, may_move: bool) -> bool
+        ensures gone { result ≡ true → self.new.row
+            ≡ cond (is_kept_at place (map.get self.old.row.kept first.old.tid))
+            (row_with_aside self.old.row first.old.tid first.old.reply) self.old.row }
+        ensures left { result ≡ false → self.new ≡ self.old }
+        ensures entry { result ≡ false → first.new ≡ first.old }
+        ensures kept { result ≡ false → is_kept_at place (map.get self.old.row.kept first.old.tid) ≡ true }
+        ensures stays { may_move ≡ false → self.new ≡ self.old }
+    {
+        if !self.keeps(first.tid, place) {
+            return true;
+        }
+        may_move && self.set_aside(first.tid, &mut first.reply).is_ok()
+    }
+
+    // Moves the reply to a transaction number here. Refused for want of memory: all is as it was then.
+    fn set_aside(&mut self, tid: u64, reply: &mut Reply) -> Result<(), AllocError>
+        ensures ok { OnOk result (self.new.row ≡ row_with_aside self.old.row tid reply.old) }
+        ensures err { OnErr result (self.new ≡ self.old) }
+        ensures left { OnErr result (reply.new ≡ reply.old) }
+    {
+        self.aside.reserve(1)?;
+        let told = mem::replace(reply, Reply::Done);
+        let _ = self.aside.insert(tid, told);
+        Ok(())
     }
 }

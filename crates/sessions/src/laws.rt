@@ -1,6 +1,9 @@
-//! The law of the table that sees a history grow. A law is its contract: its body does nothing.
-ghost use Rattle.std.specs.Prelude.{◌++◌, ◌∷◌, [], List, length};
+//! The laws of the table that sees a history grow and be forgotten. A law is its contract: its body does nothing.
+ghost use Rattle.std.specs.Prelude.{◌≡◌, ◌++◌, ◌∷◌, [], false, List, length};
+ghost use Rattle.std.specs.List.{list_any};
+ghost use Rattle.mds_types.specs.History.{is_pair};
 ghost use Rattle.mds_types.specs.declared.entries.Entry.{Entry as Applied};
+ghost use Rattle.sessions.specs.Aside.{AreSetAside, forget_all};
 ghost use Rattle.sessions.specs.Table.{IsTableOf, Table, noted, trimmed};
 
 /// The table of a history, in which the reply of one more entry was kept and that entry's client trimmed, is the table
@@ -9,4 +12,18 @@ pub fn table_follows_history()
     ensures { (history : List Applied) (table : Table) (entry : Applied) → IsTableOf history table
         → IsTableOf (history ++ entry ∷ [])
         (trimmed (noted table entry.client entry.tid entry.oldest (length history)) entry.client) }
+{}
+
+/// A beginning of the history may be forgotten at any time: the table stays that of the whole history, and what was
+/// kept of the beginning is set aside, as `forget` leaves it; and so it stays where a new request is applied.
+pub fn forgotten_replies_stay()
+    ensures applied { (past history : List Applied) (table : Table) (entry : Applied)
+        → IsTableOf (past ++ history) table → AreSetAside past history table
+        → list_any (is_pair entry.client entry.tid) (past ++ history) ≡ false
+        → AreSetAside past (history ++ entry ∷ [])
+        (trimmed (noted table entry.client entry.tid entry.oldest (length (past ++ history))) entry.client) }
+    ensures forgotten { (past first rest : List Applied) (table : Table) → IsTableOf (past ++ (first ++ rest)) table
+        → AreSetAside past (first ++ rest) table
+        → IsTableOf (past ++ (first ++ rest)) (forget_all table first)
+        × AreSetAside (past ++ first) rest (forget_all table first) }
 {}

@@ -1,9 +1,12 @@
 //! The session table and its calls.
-ghost use Rattle.std.specs.Prelude.{◌≡◌, ◌<◌, ◌++◌, ◌∷◌, [], List, length, vec_len, vec_capacity, IsOk, IfOk, OnOk, IfErr};
+ghost use Rattle.std.specs.Prelude.{◌≡◌, ◌<◌, ◌≤◌, ◌^◌, ◌++◌, ◌∷◌, [], List, true, false, length, take, drop, vec_len, vec_capacity, IsOk, IfOk, OnOk, IfErr};
+ghost use Rattle.std.specs.List.{slice_index_or};
 ghost use Rattle.std.specs.Ordering.{nat_cmp};
 ghost use Rattle.std.specs.FinMap as map;
 ghost use Rattle.sorted_map.specs.SortedMap.{contents};
-ghost use Rattle.sessions.specs.Table.{no_row, noted, trimmed, IsTableOf};
+ghost use Rattle.mds_types.specs.declared.entries.Entry.{Entry as Applied};
+ghost use Rattle.sessions.specs.Aside.{AreSetAside, StopsForgetting, forget_all, forget_first, keeps_first, released};
+ghost use Rattle.sessions.specs.Table.{no_row, no_table, noted, trimmed, IsTableOf};
 ghost use Rattle.sessions.specs.Rooms.{Held, IsReady, IsSessionAt, TellsSession, table};
 ghost use Rattle.sessions.specs.Seen.{IsSeen};
 
@@ -15,18 +18,24 @@ use std::alloc::{AllocError, Global};
 use std::fmt;
 use std::marker::Model;
 
-/// What is known of every client: its mark, and where in the history its kept replies are, those at or above it.
+// The most entries that are forgotten: with any history behind them their number is one of 64 bits.
+const MOST_FORGOTTEN: usize = 4_611_686_018_427_387_904;
+
+/// What is known of every client: its mark, and where in the history its kept replies are, those at or above it. Places
+/// are counted from the first entry ever. Of the history a beginning may be forgotten: the kept replies of it stand here.
 #[derive(Drop)]
 pub struct Sessions {
+    /// How many entries are forgotten.
+    forgotten: usize,
     /// Where each client's session is, which it keeps for ever.
     indices: SortedMap<u64, usize>,
     sessions: Vec<Client>,
-    /// A client of which nothing is known, set aside with room for one reply; `sessions` has room for it.
+    /// A client of which nothing is known, made ready with room for one reply; `sessions` has room for it.
     spare: Option<Client>,
 }
 
 impl Model for Sessions {
-    ghost use Rattle.std.specs.Prelude.{◌≡◌, ◌<◌, IfSome, vec_len, vec_capacity};
+    ghost use Rattle.std.specs.Prelude.{◌≡◌, ◌<◌, ◌≤◌, ◌^◌, IfSome, vec_len, vec_capacity};
     ghost use Rattle.std.specs.Ordering.{nat_cmp};
     ghost use Rattle.std.specs.Coded.{codes};
     ghost use Rattle.std.specs.FinMap as map;
@@ -38,36 +47,54 @@ impl Model for Sessions {
 
     ghost coded = { Prim.hlevel (codes, map.code) };
 
-    ghost view = { λ s. record
-        { indices = contents nat_cmp s.indices; sessions = s.sessions.items; room = s.indices.room; spare = s.spare } };
+    ghost view = { λ s. record {
+      forgotten = s.forgotten;
+      indices = contents nat_cmp s.indices;
+      sessions = s.sessions.items;
+      room = s.indices.room;
+      spare = s.spare;
+    } };
 
     ghost invariant = { λ s. AreIndexed (contents nat_cmp s.indices) s.sessions.items
         × IfSome s.spare (λ spare. (spare.row ≡ no_row) × (0 < spare.room)
-        × (vec_len s.sessions < vec_capacity s.sessions)) };
+        × (vec_len s.sessions < vec_capacity s.sessions)) × (s.forgotten ≤ 2 ^ 62) };
 }
 
 impl Sessions {
     /// The table of no requests.
     pub fn new(alloc: Global) -> Sessions
-        ensures { table result ≡ map.empty }
+        ensures { table result ≡ no_table }
     {
         Sessions {
+            forgotten: 0,
             indices: SortedMap::new(alloc),
             sessions: Vec::new(alloc),
             spare: None,
         }
     }
 
+    /// How many entries are forgotten: the place of the first one that isn't.
+    pub fn forgotten(&self) -> usize
+        ensures forgotten { result ≡ (table self.now).forgotten }
+        ensures most { result ≤ 2 ^ 62 }
+    {
+        self.forgotten
+    }
+
     /// What a request of the client is to the history, whose table this is, and of a new one where the client's session
-    /// is. Takes no memory, and two look-ups by binary search.
-    pub fn seen<'a>(&self, history: &'a [Entry], client: u64, tid: u64, oldest: u64) -> Seen<'a>
-        requires { IsTableOf history.now (table self.now) }
-        ensures seen { IsSeen history.entry.now client tid oldest result }
+    /// is. `history` has the entries that aren't forgotten: from whichever past they go on, the request is this to all
+    /// of them together. Takes no memory, and two look-ups by binary search; one more for a kept reply.
+    pub fn seen<'a>(&'a self, history: &'a [Entry], client: u64, tid: u64, oldest: u64) -> Seen<'a>
+        requires { (past : List Applied) × IsTableOf (past ++ history.now) (table self.now)
+            × AreSetAside past history.now (table self.now) }
+        ensures seen { (past : List Applied) → IsTableOf (past ++ history.entry.now) (table self.now)
+            → AreSetAside past history.entry.now (table self.now)
+            → IsSeen (past ++ history.entry.now) client tid oldest result }
         ensures session { TellsSession self.now client result }
     {
         let at = self.find(client);
         match at.session {
-            Some(i) => self.sessions[i].seen(history, at, tid, oldest),
+            Some(i) => self.sessions[i].seen(history, self.forgotten, at, tid, oldest),
             None if tid < oldest => Seen::Trimmed,
             None => Seen::New(at),
         }
@@ -137,6 +164,92 @@ impl Sessions {
         }
     }
 
+    /// Forgets so many entries of the front of the history, or fewer, and tells how many. The replies of them that are
+    /// kept are moved to their sessions. Takes memory for these alone, and stops where it is refused: at an entry whose
+    /// reply is kept; or once 2^62 entries are forgotten. The entries that stay are moved once.
+    pub fn forget(&mut self, history: &mut Vec<Entry>, count: usize) -> usize
+        requires { count ≤ length history.old.items }
+        ensures few { result ≤ count }
+        ensures stops { (e : Applied) → result < count
+            → StopsForgetting (table self.new) (slice_index_or history.old.items result e) }
+        ensures left { history.new.items ≡ drop result history.old.items }
+        ensures aside { table self.new ≡ forget_all (table self.old) (take result history.old.items) }
+    {
+        let gone = self.forget_while(history, count, true);
+        drop(history.drain(..gone));
+        gone
+    }
+
+    /// Forgets so many entries of the front of the history, or fewer, and tells how many: those before the first whose
+    /// reply is kept. Takes no memory. The entries that stay are moved once.
+    pub fn forget_passed(&mut self, history: &mut Vec<Entry>, count: usize) -> usize
+        requires { count ≤ length history.old.items }
+        ensures few { result ≤ count }
+        ensures stops { (e : Applied) → result < count
+            → StopsForgetting (table self.new) (slice_index_or history.old.items result e) }
+        ensures left { history.new.items ≡ drop result history.old.items }
+        ensures stays { (table self.new).rows ≡ (table self.old).rows }
+        ensures aside { table self.new ≡ forget_all (table self.old) (take result history.old.items) }
+    {
+        let gone = self.forget_while(history, count, false);
+        drop(history.drain(..gone));
+        gone
+    }
+
+    // Forgets the first entries, which stay in the history so far, up to one that has to stay: one whose reply is kept
+    // and may not be moved, or can't.
+    fn forget_while(&mut self, history: &mut Vec<Entry>, count: usize, may_move: bool) -> usize
+        requires { count ≤ length history.old.items }
+        ensures few { result ≤ count }
+        ensures stops { (e : Applied) → result < count
+            → StopsForgetting (table self.new) (slice_index_or history.old.items result e) }
+        ensures left { drop result history.new.items ≡ drop result history.old.items }
+        ensures long { length history.new.items ≡ length history.old.items }
+        ensures stays { may_move ≡ false → (table self.new).rows ≡ (table self.old).rows }
+        ensures aside { table self.new ≡ forget_all (table self.old) (take result history.old.items) }
+    {
+        for i in 0..count {
+            if !self.forget_one(&mut history[i], may_move) {
+                return i;
+            }
+        }
+        count
+    }
+
+    // Forgets the first entry that isn't forgotten, which is this one: what is kept of it is moved here. Where that may
+    // not be, or can't, all is as it was, and false is told.
+    fn forget_one(&mut self, first: &mut Entry, may_move: bool) -> bool
+        ensures gone { result ≡ true → table self.new ≡ forget_first (table self.old) first.old }
+        ensures left { result ≡ false → table self.new ≡ table self.old }
+        ensures entry { result ≡ false → first.new ≡ first.old }
+        ensures stops { result ≡ false → StopsForgetting (table self.old) first.old }
+        ensures stays { may_move ≡ false → (table self.new).rows ≡ (table self.old).rows }
+    {
+        if self.forgotten == MOST_FORGOTTEN {
+            return false;
+        }
+        if !self.release(first, may_move) {
+            return false;
+        }
+        self.forgotten += 1;
+        true
+    }
+
+    // The first entry that isn't forgotten, which is this one, may be: what is kept of it is moved here. Where that may
+    // not be, or can't, all is as it was, and false is told.
+    fn release(&mut self, first: &mut Entry, may_move: bool) -> bool
+        ensures gone { result ≡ true → table self.new ≡ released (table self.old) first.old }
+        ensures left { result ≡ false → table self.new ≡ table self.old }
+        ensures entry { result ≡ false → first.new ≡ first.old }
+        ensures kept { result ≡ false → keeps_first (table self.old) first.old ≡ true }
+        ensures stays { may_move ≡ false → (table self.new).rows ≡ (table self.old).rows }
+    {
+        match self.find(first.client).session {
+            Some(i) => self.sessions[i].forget(first, self.forgotten, may_move),
+            None => true,
+        }
+    }
+
     /// Forgets the replies below its mark of the client whose session is there.
     pub fn trim(&mut self, at: SessionAt)
         requires { IsSessionAt self.old at }
@@ -149,7 +262,7 @@ impl Sessions {
 }
 
 impl fmt::Debug for Sessions {
-    /// The clients. The session that is set aside is room, and no part of the table.
+    /// The clients. The session that is made ready is room, and no part of the table.
     fn fmt<W: fmt::Write>(&self, f: &mut fmt::Formatter<W>) -> fmt::Result {
         let Sessions {
             indices,

@@ -1,14 +1,14 @@
 use Rattle.sessions.proofs.Common.{Held, None, Some, ap, contents, nat_cmp, ◌∙◌, ◌≡◌}
 use Rattle.std.specs.FinMap as map
-use Rattle.sessions.proofs.RowLaws.{trimmed_known, trimmed_unknown}
+use Rattle.sessions.proofs.RowLaws.{same_behind, trimmed_known, trimmed_unknown}
 use Rattle.sessions.proofs.session_table.Sessions.trim.Goals as goal
 
 pub returns-in-Some : goal.returns-in-Some
 returns-in-Some c =
     let its : map.get (contents nat_cmp c.self.inside.indices) c.args.at.client ≡ Some c.in-Some.i = ap (λ (h : Held). map.get h.indices c.args.at.client) c.self.view_is ∙ c.requires ∙ c.in-Some.is in
-    rw (← c.self.view_is) (trimmed_known (contents nat_cmp c.self.inside.indices) c.self.inside.sessions.items c.args.at.client c.self.invariant.0 c.in-Some.i its c.trim.new.self c.index_mut.result.now c.index_mut.ensures.value c.trim.ensures)
+    rw (← c.self.view_is) (same_behind c.self.inside.forgotten _ _ (trimmed_known (contents nat_cmp c.self.inside.indices) c.self.inside.sessions.items c.args.at.client c.self.invariant.0 c.in-Some.i its c.trim.new.self c.index_mut.result.now c.index_mut.ensures.value c.trim.ensures))
 
 pub returns-in_default : goal.returns-in_default
 returns-in_default c =
     let none : map.get (contents nat_cmp c.self.inside.indices) c.args.at.client ≡ None = ap (λ (h : Held). map.get h.indices c.args.at.client) c.self.view_is ∙ c.requires ∙ c.in_default.is in
-    rw (← c.self.view_is) (trimmed_unknown (contents nat_cmp c.self.inside.indices) c.self.inside.sessions.items c.args.at.client none)
+    rw (← c.self.view_is) (same_behind c.self.inside.forgotten _ _ (trimmed_unknown (contents nat_cmp c.self.inside.indices) c.self.inside.sessions.items c.args.at.client none))

@@ -1,0 +1,29 @@
+-- What stays true where a beginning of the history is forgotten.
+use Rattle.std.specs.Prelude.{◌≡◌, ℕ, ◌<◌, ◌⊎◌, ◌++◌, List, drop, length, take}
+use Rattle.std.specs.List.{slice_index_or}
+use Rattle.mds_types.specs.declared.entries.Entry.{Entry}
+use Rattle.mds_types.specs.History.{after, IsKeptAt, IsLegal, IsTrimmed}
+use Rattle.mds_types.specs.Tree.{Tree}
+use Rattle.sessions.specs.Aside.{forget_all}
+use Rattle.cluster_core.specs.Sound.{StandsBehind, IsSoundBehind}
+use Rattle.cluster_core.specs.State.{Core, KeptState, shown, with_sessions}
+
+-- what is forgotten, put before what isn't, is one legal history, and what is shown is the tree after it
+abbrev pub AllIsOneHistory : Type 0
+AllIsOneHistory =
+    (opening : Tree) (past : List Entry) (book : KeptState) → StandsBehind opening past book
+    → IsLegal book.core.state.tree.limit opening (past ++ book.history)
+    × (shown book.core.state ≡ after book.core.state.tree.limit opening (past ++ book.history))
+
+-- whatever beginning of it is forgotten, with its kept replies set aside
+abbrev pub ABeginningMayGo : Type 0
+ABeginningMayGo =
+    (opening : Tree) (past history : List Entry) (core : Core) (n : ℕ) → IsSoundBehind opening past history core
+    → IsSoundBehind opening (past ++ take n history) (drop n history)
+    (with_sessions core (forget_all core.state.sessions (take n history)))
+
+-- and no request that was applied is new again: it is too old, or has its reply at its place
+abbrev pub NoneIsNewAgain : Type 0
+NoneIsNewAgain =
+    (history : List Entry) (place oldest : ℕ) (e : Entry) → place < length history → e ≡ slice_index_or history place e
+    → IsTrimmed history e.client e.tid oldest ⊎ IsKeptAt history e.client e.tid oldest place
