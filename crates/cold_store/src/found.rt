@@ -120,17 +120,16 @@ impl Found {
         ensures covers { self.new.covers ≡ self.old.covers }
         ensures refused { IfErr result (λ reason. reason ≡ NoMemory) }
     {
-        if self.met.contains(&inode.ino.0) {
+        self.met.reserve(1)?;
+        if self.met.insert(inode.ino.0, ()).is_some() {
             return Ok(false);
         }
-        self.met.reserve(1)?;
         self.entries.reserve(1)?;
         put_in_queue(&mut self.queue, &inode)?;
         let mut spare = ready_home(&mut self.dirs, &name, &inode)?;
         let dentry = Dentry { dir, name };
         adopt_dir(&mut self.dirs, &mut spare, &dentry, &inode);
         drop(spare);
-        let _ = self.met.insert(inode.ino.0, ());
         let _ = self.entries.insert(dentry, inode);
         Ok(true)
     }

@@ -188,7 +188,7 @@ fn add_names(
     found: &mut Found,
     dir: Ino,
     frag: Frag,
-    mut names: SortedMap<Name, Inode>,
+    names: SortedMap<Name, Inode>,
 ) -> Result<(), Refusal>
     requires { IsReady found.old.shape dir.0 }
     ensures good { OnOk result
@@ -200,7 +200,7 @@ fn add_names(
     ensures refused { IfErr result
         (MayNotAdd dir frag (are_new found.old.shape (rows_of (dir, frag) (map.entries (contents key_cmp names))))) }
 {
-    while let Some((name, inode)) = names.pop_first() {
+    for (name, inode) in names {
         if !found.add(dir, name, inode)? {
             return Err(Refusal::Damaged(ObjName::Frag(dir, frag)));
         }

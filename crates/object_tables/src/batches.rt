@@ -7,11 +7,12 @@ ghost use Rattle.object_tables.specs.Entries.{entry};
 ghost use Rattle.object_tables.specs.Reading.{AddsPair, HasBatch, IsReady, Precedes, with_batch};
 ghost use Rattle.object_tables.specs.Spelled.{pair_key};
 
-use crate::reading::{ReadFault, applied};
+use crate::reading::ReadFault;
 use mds_types::{Bytes, Text, TextRef};
-use objstore::{MemStore, Store as _, WriteOp};
+use objstore::{MemStore, WriteOp};
 use sorted_map::Probe;
 use std::alloc::{AllocError, Global};
+use std::mem;
 
 // How many pairs are set at once.
 const MOST: usize = 256;
@@ -168,7 +169,10 @@ fn set_pairs(alloc: Global, objects: &mut MemStore, batch: &mut Batch) -> Result
     ensures set { OnOk result (objects.new ≡ written objects.old batch.old.name batch.old.pairs) }
     ensures none { batch.new ≡ record batch.old { pairs = nothing } }
 {
-    let done = objects.apply(alloc, batch.name.as_str(), &batch.pairs);
-    batch.pairs = WriteOp::new(alloc);
-    applied(done)
+    let pairs = mem::replace(&mut batch.pairs, WriteOp::new(alloc));
+    match objects.apply_owned(batch.name.as_str(), pairs) {
+        Ok(true) => Ok(()),
+        Ok(false) => Err(ReadFault::Row),
+        Err(refused) => Err(refused.into()),
+    }
 }

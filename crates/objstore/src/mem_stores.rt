@@ -1,5 +1,5 @@
 //! A store in memory.
-ghost use Rattle.std.specs.Prelude.{◌≡◌, ◌≢◌, ◌≤◌, ℕ, List, None, map, IfOk, IfErr, IsOk, IsSome, OnOk, OnErr, option_copied, string_bytes};
+ghost use Rattle.std.specs.Prelude.{◌≡◌, ◌≢◌, ◌≤◌, ℕ, List, None, map, IfOk, IfErr, IsOk, IsSome, MatchBool, OnOk, OnErr, is_some, option_copied, string_bytes};
 ghost use Rattle.std.specs.FinMap as finmap;
 ghost use Rattle.mds_types.specs.declared.refusals.Refusal.TheVariants.{NoMemory};
 ghost use Rattle.objstore.specs.Omap.{Omap, empty_omap, key_cmp};
@@ -66,6 +66,17 @@ impl MemStore {
         }
         let all = first_names(alloc, self.objects.iter(), self.objects.len())?;
         Ok(all.into_names())
+    }
+
+    /// Does the operation on the object of this name, as `apply` does, where there is such an object; tells whether there
+    /// is. The object takes over its header and its pairs, so nothing is copied.
+    pub fn apply_owned(&mut self, name: &str, op: WriteOp) -> Result<bool, AllocError>
+        ensures exists { IfOk result (λ found. found ≡ is_some (finmap.get self.old name.now)) }
+        ensures done { IfOk result (λ found. MatchBool found (self.new ≡ written self.old name.now op)
+            (self.new ≡ self.old)) }
+        ensures same { OnErr result (self.new ≡ self.old) }
+    {
+        write_owned(&mut self.objects, name, op)
     }
 
     /// A copy. Takes memory for all objects.
@@ -153,6 +164,28 @@ fn write(
         return add(objects, alloc, name, op);
     };
     object.apply(op)
+}
+
+// Does the operation on the object of this name, and tells whether there is one.
+fn write_owned(
+    objects: &mut SortedMap<Text, Object>,
+    name: &str,
+    op: WriteOp,
+) -> Result<bool, AllocError>
+    ensures exists { IfOk result (λ found. found ≡ is_some (finmap.get (contents key_cmp objects.old) name.now)) }
+    ensures done { IfOk result (λ found. MatchBool found
+        (contents key_cmp objects.new ≡ written (contents key_cmp objects.old) name.now op)
+        (contents key_cmp objects.new ≡ contents key_cmp objects.old)) }
+    ensures same { OnErr result (contents key_cmp objects.new ≡ contents key_cmp objects.old) }
+{
+    let Some(object) = objects.get_mut(&TextRef { text: name }) else {
+        drop(op);
+        return Ok(false);
+    };
+    match object.apply_owned(op) {
+        Ok(()) => Ok(true),
+        Err(refused) => Err(refused),
+    }
 }
 
 // Puts an object in that the operation makes, where none has the name.

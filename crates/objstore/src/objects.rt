@@ -80,6 +80,29 @@ impl Object {
         Ok(())
     }
 
+    /// Does the operation, in full or, if memory is refused, not at all. The object takes over its header and its pairs,
+    /// so nothing is copied.
+    pub fn apply_owned(&mut self, op: WriteOp) -> Result<(), AllocError>
+        ensures ok { OnOk result (self.new ≡ applied op self.old) }
+        ensures err { OnErr result (self.new ≡ self.old) }
+    {
+        let WriteOp {
+            clear,
+            header,
+            set,
+            remove,
+        } = op;
+        if let Err(refused) = put_pairs(&mut self.pairs, clear, set) {
+            drop(header);
+            drop(remove);
+            return Err(refused);
+        }
+        put_header(&mut self.header, clear, header);
+        self.pairs.remove_all(&remove);
+        drop(remove);
+        Ok(())
+    }
+
     /// A copy. Takes memory for header and pairs.
     pub fn try_clone(&self) -> Result<Object, AllocError>
         ensures { IfOk result (λ copy. copy ≡ self.now) }
