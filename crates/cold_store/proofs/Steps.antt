@@ -1,5 +1,5 @@
 -- The steps of the walk.
-use Rattle.cold_store.proofs.Common.{AreGoodDirs, AreGoodLeaves, Covers, Finding, Fragment, Ino, Inode, IsBadAmong, IsBadIn, IsFaulty, IsGoodDir, IsGoodLeaf, IsIn, IsReached, IsReady, IsRecord, IsWalkedTo, Leaf, List, ObjName, Objects, Record, Shape, Some, [], ap, are_new, arith, cover_in, covers_from, drop, drop_more, get_or, get_or_default, inl, inr, is_known, is_met, length, length-append, not, or_right, refl, rows_at, rows_from, rows_in, rows_of, rows_under, same_Some, slice_get, start, subst, sym, take, take-append-drop, take-append-le, take_more, true, with_cover, with_entry, with_rows, ℕ, ◌&&◌, ◌++◌, ◌+◌, ◌<◌, ◌==◌, ◌∙◌, ◌∷◌, ◌≡◌, ◌≤◌, ◌⊎◌}
+use Rattle.cold_store.proofs.Common.{AreGoodDirs, AreGoodLeaves, Covers, Finding, Fragment, Ino, Inode, IsBadAmong, IsBadIn, IsFaulty, IsGoodDir, IsGoodLeaf, IsIn, IsReached, IsReady, IsRecord, IsWalkedTo, Leaf, List, ObjName, Objects, Record, Shape, Some, [], ap, are_new, arith, cover_in, covers_from, drop, drop_more, get_or, get_or_default, inl, inr, is_known, is_met, length, length-append, not, or_right, refl, rows_at, rows_from, rows_in, rows_of, rows_under, start, subst, sym, take, take-append-drop, take-append-le, take_more, true, with_cover, with_entry, with_rows, ℕ, ◌&&◌, ◌++◌, ◌+◌, ◌<◌, ◌==◌, ◌∙◌, ◌∷◌, ◌≡◌, ◌≤◌, ◌⊎◌}
 use Rattle.std.specs.FinMap as map
 use Rattle.cold_store.proofs.Members.{AreApart, apart_split, in_either, in_left, in_right}
 use Rattle.cold_store.proofs.RowLaws.{dir_among, dirs_apart, dirs_of, each_met_after, each_met_at_start, homes_stand, queue_after, with_rows-append}
@@ -8,15 +8,8 @@ use Rattle.cold_store.proofs.GoodLaws.{all_new, covers_from-snoc, good-snoc}
 use Rattle.cold_store.proofs.FaultLaws.{dir_faulty}
 
 -- one name more
-module _ (leaf : Leaf) (es next : List (List ℕ × Inode)) (name : List ℕ) (inode : Inode) (s t : Shape) (value : Some (name, inode) ≡ slice_get es 0) (rest : next ≡ drop 1 es)
+module _ (leaf : Leaf) (es next : List (List ℕ × Inode)) (name : List ℕ) (inode : Inode) (s t : Shape) (parted : es ≡ (name, inode) ∷ next)
     (added : t ≡ with_entry s (record { dir = leaf.0; name = name }) inode) where
-  parted : es ≡ (name, inode) ∷ next
-  parted = go es value rest
-    where
-      go : (xs : List (List ℕ × Inode)) → Some (name, inode) ≡ slice_get xs 0 → next ≡ drop 1 xs → xs ≡ (name, inode) ∷ next
-      go [] none is = absurd cc
-      go (x ∷ xs) first is = λ i. sym (same_Some (name, inode) x first) i ∷ sym is i
-
   pub new_step : not (is_met s inode.ino.0) ≡ true → are_new t (rows_of leaf next) ≡ are_new s (rows_of leaf es)
   new_step new =
       ap (λ u. are_new u (rows_of leaf next)) added

@@ -18,7 +18,7 @@ loop-after-preserved g c =
     let inv = c.loop-after.invariant in
     let objects = g.S.Store.objects c.args.store.now in
     let left : NamesLeft objects c.loop-after.after (Some c.in-Some.last) =
-        subst (λ o. NamesLeft objects o (Some c.in-Some.last)) c.as_ref.ensures.value (subst (λ o. NamesLeft o (option_copied c.as_ref.result) (Some c.in-Some.last)) inv.same (rw c.in-Some.is at c.in_ok-last.ensures.left)) in
+    subst (λ o. NamesLeft objects o (Some c.in-Some.last)) c.as_ref.ensures.value (subst (λ o. NamesLeft o (option_copied c.as_ref.result) (Some c.in-Some.last)) inv.same (rw c.in-Some.is at c.in_ok-last.ensures.left)) in
     record {
       same = search rules;
       counted = search rules;
@@ -37,5 +37,5 @@ returns-in-None-clause-called g c =
     let inv = c.loop-after.invariant in
     let objects = g.S.Store.objects c.args.store.now in
     let left : NamesLeft objects c.loop-after.after None =
-        subst (λ o. NamesLeft objects o None) c.as_ref.ensures.value (subst (λ o. NamesLeft o (option_copied c.as_ref.result) None) inv.same (rw c.in-None.is at c.in_ok-last.ensures.left)) in
+    subst (λ o. NamesLeft objects o None) c.as_ref.ensures.value (subst (λ o. NamesLeft o (option_copied c.as_ref.result) None) inv.same (rw c.in-None.is at c.in_ok-last.ensures.left)) in
     inv.called None c.next_names.new.store (subst (λ n. AreCalls g.S.Store.IsCall n c.loop-after.store None c.next_names.new.store) (sym left) c.in_ok-last.ensures.called)
