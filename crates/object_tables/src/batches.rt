@@ -8,9 +8,8 @@ ghost use Rattle.object_tables.specs.Reading.{AddsPair, HasBatch, IsReady, Prece
 ghost use Rattle.object_tables.specs.Spelled.{pair_key};
 
 use crate::reading::ReadFault;
-use mds_types::{Bytes, Text, TextRef};
+use mds_types::{Bytes, Text};
 use objstore::{MemStore, WriteOp};
-use sorted_map::Probe;
 use std::alloc::{AllocError, Global};
 use std::mem;
 
@@ -44,7 +43,7 @@ pub fn add(
     alloc: Global,
     objects: &mut MemStore,
     batch: &mut Batch,
-    name: &str,
+    name: &[u8],
     key: &[u8],
     value: &[u8],
 ) -> Result<(), ReadFault>
@@ -65,7 +64,7 @@ fn make_ready(
     alloc: Global,
     objects: &mut MemStore,
     batch: &mut Batch,
-    name: &str,
+    name: &[u8],
     key: &Bytes,
 ) -> Result<(), ReadFault>
     requires { HasBatch objects.old batch.old }
@@ -81,10 +80,10 @@ fn make_ready(
 }
 
 // Whether a key was read of the object of this name, and of no other since.
-fn is_of(batch: &Batch, name: &str) -> bool
+fn is_of(batch: &Batch, name: &[u8]) -> bool
     ensures { IsTrue result → batch.now.name ≡ name.now }
 {
-    batch.last.is_some() && TextRef { text: name }.order(&batch.name).is_eq()
+    batch.last.is_some() && batch.name.as_str().as_bytes() == name
 }
 
 // Goes on with an object, where the key comes after the last one. Many pairs are set.
@@ -123,7 +122,7 @@ fn turn_to(
     alloc: Global,
     objects: &mut MemStore,
     batch: &mut Batch,
-    name: &str,
+    name: &[u8],
 ) -> Result<(), ReadFault>
     requires { HasBatch objects.old batch.old }
     ensures ready { OnOk result ((key : List ℕ) → IsReady objects.new batch.new.name batch.new.pairs key
@@ -131,6 +130,9 @@ fn turn_to(
     ensures name { OnOk result (batch.new.name ≡ name.now) }
 {
     finish(alloc, objects, batch)?;
+    let Ok(name) = str::from_utf8(name) else {
+        return Err(ReadFault::Row);
+    };
     let Some(object) = objects.get(name) else {
         return Err(ReadFault::Row);
     };

@@ -164,9 +164,6 @@ fn add_pair(
     ) else {
         return Err(ReadFault::Row);
     };
-    let Ok(name) = str::from_utf8(name) else {
-        return Err(ReadFault::Row);
-    };
     if row.len() != 3 {
         return Err(ReadFault::Row);
     }
