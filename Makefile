@@ -5,11 +5,34 @@
 #                         PROGRAM=out/unproved/cephmeta the one of `make run`
 # make units [NAME..]     runs the tests of these files of tests/units or of all
 # make strength [CRATE..] tries the edits that the gate leaves out, of these crates or of all
+# make check CRATE [FN..] checks one crate, or these functions of it, over libraries that it makes where they aren't there (docs/CONTRIBUTING.md)
 
 # no rule but those below: a search for others at each source takes longer than all else
 MAKEFLAGS += --no-builtin-rules
 
-.PHONY: all proved run install test units strength
+# the words after these three are names, and no goals of their own
+NAMED := units strength check
+ifneq (,$(filter $(NAMED),$(firstword $(MAKECMDGOALS))))
+
+NAMES := $(wordlist 2,$(words $(MAKECMDGOALS)),$(MAKECMDGOALS))
+OTHERS := $(subst :,\:,$(filter-out $(NAMED),$(NAMES)))
+.PHONY: $(NAMED) $(OTHERS)
+
+units:
+	@tests/units/run $(NAMES)
+
+strength:
+	@strength/run $(NAMES)
+
+check:
+	@building/check $(NAMES)
+
+$(OTHERS):
+	@:
+
+else
+
+.PHONY: all proved run install test
 
 PREFIX ?= /usr/local
 PROGRAM ?= cephmeta
@@ -47,16 +70,4 @@ test:
 	    tests/building/run tests/rows/run tests/operation_table/run tests/many_names/run tests/random_runs/run tests/asked_runs/run \
 	    tests/clients/run tests/answers/run tests/explain/run tests/refused_growths/run tests/serve/run tests/store_file/run tests/rados/run
 
-units:
-	@tests/units/run $(NAMES)
-
-strength:
-	@strength/run $(NAMES)
-
-# the words after these two are no goals of their own
-ifneq (,$(filter units strength,$(firstword $(MAKECMDGOALS))))
-NAMES := $(wordlist 2,$(words $(MAKECMDGOALS)),$(MAKECMDGOALS))
-.PHONY: $(NAMES)
-$(NAMES):
-	@:
 endif
