@@ -61,7 +61,7 @@ install: $(PROGRAM)
 	@install/put $(PROGRAM) $(DESTDIR)$(PREFIX)
 
 # `rt ci` proves and builds the program; nothing is proved again for what follows it. A check gets the processors that no other task
-# waits for: the chain of crates is long, so that is faster by the clock than one job each (docs/PROVING.md, Times)
+# waits for: the chain of crates is long, so that is faster by the clock than one job each (docs/PROVING.md)
 test:
 	@building/gate
 	@cp crates/cephmeta/out/cephmeta cephmeta
