@@ -1,5 +1,5 @@
 -- What one step makes of the history that was handed in, and of its places.
-use Rattle.rank_threads.proofs.Common.{AllByRecursion, Answer, BookState, Entry, Event, IsOneThread, IsSent, IsSoundBook, IsSoundKept, KeptState, List, Receipt, Refusal, Request, Result, StandsBehind, StaysBehind, Tree, ap, arith, drop, first_in, length, length-take, places_of, receipt_of, refl, subst, sym, take, take-append-drop, take-append-le, whole_of, ℕ, ◌++◌, ◌+◌, ◌∙◌, ◌≡◌, ◌≤◌}
+use Rattle.rank_threads.proofs.Common.{AllByRecursion, Answer, BookState, Continues, Entry, Event, IsOneThread, IsSent, IsSoundBook, IsSoundKept, KeptState, List, Receipt, Refusal, Request, Result, StandsBehind, StaysBehind, Tree, ap, arith, drop, first_in, length, length-take, places_of, receipt_of, refl, subst, sym, take, take-append-drop, take-append-le, whole_of, ℕ, ◌++◌, ◌+◌, ◌∙◌, ◌≡◌, ◌≤◌}
 use Rattle.std.proofs.Math.Logic.{∥∥₁_map}
 use Rattle.std.proofs.lemmas.List.{append_assoc}
 use Rattle.cluster_core.specs.OneThread.{InOrder}
@@ -7,6 +7,7 @@ use Rattle.cluster_core.specs.Steps.{Steps}
 use Rattle.cluster_core.specs.Uses.{UsesStep}
 use Rattle.cluster_core.proofs.Forgotten.{behind_one}
 use Rattle.cluster_core.proofs.OneThreadLaws.{counts}
+use Rattle.rank_threads.proofs.KeptBehind.{kept_stays}
 use Rattle.rank_threads.specs.OneStep.{IsOneStep}
 
 -- there are as many more places as the result is a first reply
@@ -57,6 +58,17 @@ still_behind first old new on h = ∥∥₁_map h (λ (was : StaysBehind first o
 
 pub behind_first : (first book : KeptState) → first ≡ book → ∥ StaysBehind first book ∥₁
 behind_first first book same = subst (λ (b : KeptState). ∥ StaysBehind first b ∥₁) same ∣ (λ opening past given. given) ∣₁
+
+-- a book that keeps what was handed in goes on from it
+pub continued : (first book : KeptState) → IsSoundKept book → book.opening ≡ first.opening → book.core.state.sessions.forgotten ≡ first.core.state.sessions.forgotten → take (length first.history) book.history ≡ first.history → ∥ StaysBehind first book ∥₁
+    → Continues first book
+continued first book sound same same_past was goes = record {
+  sound = sound;
+  goes_on = kept_stays first book sound goes;
+  same_opening = same;
+  same_past = same_past;
+  begins = (drop (length first.history) book.history, sym (take-append-drop (length first.history) book.history) ∙ ap (λ xs. xs ++ drop (length first.history) book.history) was);
+}
 
 -- what the contract of a step of the book says is one step
 pub one_step : (old new : BookState) (event : Event) (result : Result Answer Refusal) → Steps old.core new.core old.history new.history result event → UsesStep old.core new.core result event → new.opening ≡ old.opening → IsSoundBook new

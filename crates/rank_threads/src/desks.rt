@@ -62,7 +62,7 @@ pub(crate) struct Desk<S: Store + Drop, L: Handed> {
 impl<S: Store + Drop, L: Handed> Desk<S, L> {
     /// One step of the book, of an event whose request, if it brings one, was sent. The share rises by one where the step
     /// adds an entry to the history, and a reply that is handed out was asked for.
-    #[tactic(auto, using(crate::proofs::StepLaws::still_begins, crate::proofs::StepLaws::counts_on, crate::proofs::StepLaws::one_step))]
+    #[tactic(auto, using(crate::proofs::StepLaws::counts_on, crate::proofs::StepLaws::made_step))]
     pub(crate) fn step(
         &mut self,
         alloc: Global,
@@ -88,7 +88,7 @@ impl<S: Store + Drop, L: Handed> Desk<S, L> {
     }
 
     /// A commit of a leaf begins at a rank: its job, unless the leaf is clean. The history stays.
-    #[tactic(auto, using(crate::proofs::StepLaws::one_step))]
+    #[tactic(auto, using(crate::proofs::StepLaws::made_step))]
     pub(crate) fn begin(
         &mut self,
         alloc: Global,
@@ -116,7 +116,7 @@ impl<S: Store + Drop, L: Handed> Desk<S, L> {
     }
 
     /// The commit of what was encoded ends. The history stays.
-    #[tactic(auto, using(crate::proofs::StepLaws::one_step))]
+    #[tactic(auto, using(crate::proofs::StepLaws::made_step))]
     pub(crate) fn end(&mut self, alloc: Global, encoded: Encoded) -> Result<(), Refusal>
         ensures { (opening : Tree) (past : List Applied) → StandsBehind opening past self.old.book
             → IsStepTold (whole_of opening past self.old.book) (whole_of opening past self.new.book)
@@ -127,7 +127,7 @@ impl<S: Store + Drop, L: Handed> Desk<S, L> {
     }
 
     /// A commit is given up. The history stays.
-    #[tactic(auto, using(crate::proofs::StepLaws::one_step))]
+    #[tactic(auto, using(crate::proofs::StepLaws::made_step))]
     pub(crate) fn give_up(&mut self, alloc: Global, job: u64)
         ensures { (came : Result Answer Refusal) × MadeStep (CommitDrop job) came }
     {

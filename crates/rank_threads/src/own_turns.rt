@@ -52,7 +52,7 @@ impl<S: Store + Drop, L: Handed> Desk<S, L> {
     /// A rank proposes a step of its own, and makes it, if there is one. An Import is given the bytes that the rank's
     /// thread keeps; one whose bytes aren't kept there is passed over. The history stays. Answers whether a step was
     /// made.
-    #[tactic(auto, using(crate::proofs::OwnTurnLaws::took_turn))]
+    #[tactic(auto, using(crate::proofs::OwnTurnLaws::took_behind))]
     pub(crate) fn own(&mut self, alloc: Global, own: &mut OwnTurns) -> Result<bool, Refusal>
         ensures rank { own.new.rank ≡ own.old.rank }
         ensures turn { (opening : Tree) (past : List Applied) → StandsBehind opening past self.old.book
@@ -69,7 +69,7 @@ impl<S: Store + Drop, L: Handed> Desk<S, L> {
     }
 
     // Makes a step that a rank proposed.
-    #[tactic(auto, using(crate::proofs::OwnTurnLaws::made_other, crate::proofs::StepLaws::one_step))]
+    #[tactic(auto, using(crate::proofs::OwnTurnLaws::made_other, crate::proofs::StepLaws::made_step))]
     fn make(&mut self, alloc: Global, kept: &mut KeptBytes, event: Event) -> Result<bool, Refusal>
         requires { (core : Core) × (rank : Rank) × Proposes core rank (Ok (Some event)) }
         ensures { (opening : Tree) (past : List Applied) → StandsBehind opening past self.old.book
@@ -89,7 +89,7 @@ impl<S: Store + Drop, L: Handed> Desk<S, L> {
 
     // An export is sent, and what it hands over is kept. Room for it comes first: once it is sent, nothing but its
     // Import ends it.
-    #[tactic(auto, using(crate::proofs::OwnTurnLaws::sent_nothing, crate::proofs::StepLaws::one_step))]
+    #[tactic(auto, using(crate::proofs::OwnTurnLaws::sent_nothing, crate::proofs::StepLaws::made_step))]
     fn send(
         &mut self,
         alloc: Global,
@@ -120,7 +120,7 @@ impl<S: Store + Drop, L: Handed> Desk<S, L> {
 
     // An export is imported, if its bytes are kept. The importer is given a copy, since an Import that is refused has
     // eaten its bytes.
-    #[tactic(auto, using(crate::proofs::OwnTurnLaws::passed_over, crate::proofs::OwnTurnLaws::not_copied, crate::proofs::OwnTurnLaws::imported, crate::proofs::StepLaws::one_step))]
+    #[tactic(auto, using(crate::proofs::OwnTurnLaws::passed_over, crate::proofs::OwnTurnLaws::not_copied, crate::proofs::OwnTurnLaws::imported, crate::proofs::StepLaws::made_step))]
     fn import(
         &mut self,
         alloc: Global,
