@@ -62,6 +62,7 @@ pub fn drain<S: Store + Drop>(alloc: Global, book: &mut Book<S>) -> Drained
         → StandsBehind opening past book.new }
     ensures sound { IsSoundKept book.new }
 {
+    book.is_sound();
     let mut receipts = Vec::new(alloc);
     let ended = answer_all(alloc, book, &mut receipts);
     Drained { receipts, ended }

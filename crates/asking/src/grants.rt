@@ -19,6 +19,7 @@ use std::alloc::Global;
 /// Each rank grants a request that waits somewhere all of its fragments that the request would change now: then none
 /// of them is frozen, and whatever rank serves the request may change them. Refused `Frozen` exactly where one of them
 /// is frozen, unless a fragment can't be read first; some grants may have been made then.
+#[tactic(auto, using(crate::proofs::ReachedLaws::leads_nowhere))]
 pub fn grant_all<S: Store + Drop>(
     alloc: Global,
     book: &mut Book<S>,
