@@ -13,7 +13,7 @@ use Rattle.cluster_core.proofs.Forgotten.{places_behind}
 use Rattle.cluster_core.proofs.NoReplyLaws.{TellsNone, tells_none}
 use Rattle.cluster_core.proofs.OneThreadLaws as whole
 use Rattle.cluster_core.proofs.SentLaws.{AreAmong}
-use Rattle.admin_cli.specs.Forgetting.{Forgets}
+use Rattle.cluster_core.specs.Forgetting.{Forgets}
 use Rattle.admin_cli.specs.StepLines.{IsStep}
 
 -- behind this opening tree and past: what is forgotten now, and what the whole books are to each other

@@ -1,12 +1,27 @@
 -- What stays true where a beginning of the history is forgotten.
-use Rattle.std.specs.Prelude.{◌≡◌, ℕ, ◌<◌, ◌⊎◌, ◌++◌, List, drop, length, take}
+use Rattle.std.specs.Prelude.{◌≡◌, ℕ, ◌<◌, ◌≤◌, ◌-◌, ◌⊎◌, ◌++◌, List, None, drop, length, take}
 use Rattle.std.specs.List.{slice_index_or}
 use Rattle.mds_types.specs.declared.entries.Entry.{Entry}
 use Rattle.mds_types.specs.History.{after, IsKeptAt, IsLegal, IsTrimmed}
 use Rattle.mds_types.specs.Tree.{Tree}
-use Rattle.sessions.specs.Aside.{forget_all}
+use Rattle.sessions.specs.Aside.{StopsForgetting, forget_all}
 use Rattle.cluster_core.specs.Sound.{StandsBehind, IsSoundBehind}
 use Rattle.cluster_core.specs.State.{Core, KeptState, shown, with_sessions}
+
+-- a book forgets so many of the first entries of its history, and keeps at least so many of the last: what the contract
+-- of `Book::forget` says. The replies that are kept of these entries are in the sessions then; nothing else changes
+pub record Forgets (keep : ℕ) (old new : KeptState) : Type 0 where
+  pub count : ℕ
+  pub few : count ≤ length old.history - keep
+  pub waits : length old.history - keep < keep → count ≡ 0
+  pub stops : (e : Entry) → keep ≤ length old.history - keep → count < length old.history - keep
+      → StopsForgetting new.core.state.sessions (slice_index_or old.history count e)
+  pub left : new.history ≡ drop count old.history
+  pub core : new.core ≡ with_sessions old.core (forget_all old.core.state.sessions (take count old.history))
+  pub nothing : count ≡ 0 → new ≡ old
+  pub opening : 0 < count → new.opening ≡ None
+  pub goes_on : (opening : Tree) (past : List Entry) → StandsBehind opening past old
+      → StandsBehind opening (past ++ take count old.history) new
 
 -- what is forgotten, put before what isn't, is one legal history, and what is shown is the tree after it
 abbrev pub AllIsOneHistory : Type 0

@@ -71,7 +71,7 @@ kept_for history client tid None h = λ marked. same_test _ _ (∥∥₁_map h (
 tabled : (history : List Entry) (table : Table) → Stable (IsTableOf history table)
 tabled history table h = record {
   marks = λ client. same_number _ _ (∥∥₁_map h (λ s. s.marks client));
-  kept = λ client tid. kept_for history client tid _ (∥∥₁_map h (λ s. s.kept client tid));
+  replies = λ client tid. kept_for history client tid _ (∥∥₁_map h (λ s. s.replies client tid));
 }
 
 aside_for : (history : List Entry) (forgotten : ℕ) (kept : Option ℕ) (aside : Option Reply) → Stable (IsAsideFor history forgotten kept aside)

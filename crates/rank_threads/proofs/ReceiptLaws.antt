@@ -1,7 +1,7 @@
 -- Receipts, looked at from the last to the first.
 use Rattle.rank_threads.proofs.Common.{Agree, AllByRecursion, NoneTwice, Bool, Entry, Fits, IsHeld, IsHeldAmong, IsThere, List, Receipt, Stand, StandAmong, StandsInHistory, [], ap, arith, cond, drop, drop-length, drop_more, false, first_places, get_or, get_or-replicate, length, length-append, length-replicate, length-set, list_any, marked, nat_eq, refl, replicate, rules, set, subst, suc, sym, true, zero, ℕ, ◌++◌, ◌+◌, ◌-◌, ◌<◌, ◌||◌, ◌∙◌, ◌∷◌, ◌≡◌, ◌≤◌}
-use Rattle.std.specs.Prelude.{IsTrue, ◌&&◌, ◌↔◌}
-use Rattle.std.proofs.lemmas.Bool.{and_from, and_parts}
+use Rattle.std.specs.Prelude.{IsTrue, ◌↔◌}
+use Rattle.std.proofs.lemmas.Bool.{eq-eqb, eqb-true, false≢true}
 use Rattle.std.proofs.Math.Seq.{get_or-append-add}
 use Rattle.std.specs.List.{slice_index_or}
 
@@ -179,16 +179,17 @@ module _ (past history : List Entry) where
   pub stand_among : (from : ℕ) (rs : List Receipt) → AllByRecursion (IsThere (length past)) rs → Stand (past ++ history) from rs → StandAmong (length past) history from rs
   stand_among from rs there h = record { held = all_held_among rs there h.held; newer = h.newer; apart = h.apart }
 
--- the answer of an audit, whichever past the book goes on from
-pub audited : (past history : List Entry) (forgotten places from firsts : ℕ) (rs : List Receipt) (stand same : Bool) → length past ≡ forgotten → length (past ++ history) ≡ places → firsts ≡ length (first_places rs)
-    → (IsTrue stand ↔ StandAmong forgotten history from rs) → (IsTrue same ↔ (firsts ≡ places - from))
-    → IsTrue (stand && same) ↔ (Agree (past ++ history) from rs × AllByRecursion (IsThere (length past)) rs)
-audited past history forgotten places from firsts rs stand same is_past is_all count (to, of) (counted, counts) = (
-  λ both.
-      let parts = and_parts stand same both in
-      let its = stand_in_all past history from rs (subst (λ n. StandAmong n history from rs) (sym is_past) (to parts.0)) in
-      (record { stand = its.0; as_many = let n = counted parts.1 in omega (arith, n, count, is_all) }, its.1),
-  λ all.
-      let many = all.0.as_many in
-      and_from stand same (of (subst (λ n. StandAmong n history from rs) is_past (stand_among past history from rs all.1 all.0.stand))) (counts (omega (arith, many, count, is_all))),
-)
+-- the answer of an audit, behind a past
+module _ (past history : List Entry) (forgotten places from : ℕ) (rs : List Receipt) (is_past : length past ≡ forgotten) (is_all : length (past ++ history) ≡ places) where
+  abbrev AgreeAndAreThere : Type 0
+  AgreeAndAreThere = Agree (past ++ history) from rs × AllByRecursion (IsThere (length past)) rs
+
+  pub counted : (firsts new : ℕ) → new ≡ places - from → firsts ≡ length (first_places rs) → StandAmong forgotten history from rs → IsTrue (nat_eq firsts new) ↔ AgreeAndAreThere
+  counted firsts new is_new count stand =
+      let its = stand_in_all past history from rs (subst (λ n. StandAmong n history from rs) (sym is_past) stand) in (
+        λ same. let n = eqb-true firsts new same in (record { stand = its.0; as_many = omega (arith, n, is_new, count, is_all) }, its.1),
+        λ all. let many = all.0.as_many in eq-eqb firsts new (omega (arith, many, is_new, count, is_all)),
+      )
+
+  pub strays : (IsTrue false ↔ StandAmong forgotten history from rs) → IsTrue false ↔ AgreeAndAreThere
+  strays (to, of) = (λ no. absurd (false≢true no), λ all. of (subst (λ n. StandAmong n history from rs) is_past (stand_among past history from rs all.1 all.0.stand)))

@@ -144,7 +144,6 @@ where
 
 // What a run gave, once its threads have ended. Each receipt is looked up; how many are marked first is known by the
 // shares.
-#[tactic(auto, using(crate::proofs::TurnLaws::agree_of, crate::proofs::AskedLaws::one_of, crate::proofs::Found::kept_asked))]
 fn settled<S: Store + Drop, L: Handed>(
     alloc: Global,
     desk: Desk<S, L>,

@@ -29,9 +29,10 @@ pub fn audit<S: Store + Drop>(
         × AllByRecursion (IsThere (length past)) receipts.now)) }
     ensures err { IfErr result (λ refusal. refusal ≡ Refusal.NoMemory) }
 {
-    let places = book.places();
+    let new = book.places().saturating_sub(from);
     match stand(alloc, book, from, receipts) {
-        Ok(yes) => Ok(yes && count_firsts(receipts) == places.saturating_sub(from)),
+        Ok(true) => Ok(count_firsts(receipts) == new),
+        Ok(false) => Ok(false),
         Err(_) => Err(Refusal::NoMemory),
     }
 }
