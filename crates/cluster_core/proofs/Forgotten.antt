@@ -91,16 +91,16 @@ module _ (past now : List Entry) (old new : Core) where
   at_rank false result go h = inl (h.2, ap (λ (c : Core). c.state.sessions) h.1)
 
   grows_by_one : (result : Result Answer Refusal) (event : Event) → Does old new past now result event → Grows
-  grows_by_one result (Arrive rank request) h = at_rank (nat_lt rank.0 (length old.state.inboxes)) result (λ w. arrived rank request result w.0) h
-  grows_by_one result (Serve rank) h = at_rank (nat_lt rank.0 (length old.state.inboxes)) result (λ w. served_inbox (TreeMayRefuse old new) rank result (waiting_at old.state.inboxes rank) w.0) h
-  grows_by_one result (Grant rank client tid) h = at_rank (nat_lt rank.0 (length old.state.inboxes)) result (λ w. granted (TreeMayRefuse old new) rank client tid result (first_waiting client tid old.state.inboxes) w.0) h
-  grows_by_one result (Split rank dir f nb) h = at_rank (nat_lt rank.0 (length old.state.inboxes)) result (λ w. administered told_nothing (SplitsLeaf old new rank dir f nb) result w.0) h
-  grows_by_one result (Merge rank dir f) h = at_rank (nat_lt rank.0 (length old.state.inboxes)) result (λ w. administered told_nothing (MergesLeaves old new rank dir f) result w.0) h
-  grows_by_one result (CommitBegin rank dir f) h = at_rank (nat_lt rank.0 (length old.state.inboxes)) result (λ done. administered told_job (BeginsAt old.state new.state rank (dir, f)) result done.0.0) h
-  grows_by_one result (CommitEnd encoded) h = administered told_nothing (EndsJobOf old.state.tree new.state.tree old.faults new.faults encoded.job) result h.0.0
-  grows_by_one result (CommitDrop number) h = administered told_nothing (Drops old.state.tree new.state.tree number) result h.0.0
-  grows_by_one result (CommitTree dir) h = administered told_nothing (SavesTree old.state.tree new.state.tree old.faults new.faults dir) result h.0.0
-  grows_by_one result Purge h = administered told_nothing (Purges old.state.tree new.state.tree old.faults new.faults) result h.0.0
+  grows_by_one result (Arrive rank request) h = at_rank (nat_lt rank.0 (length old.state.inboxes)) result (λ w. arrived rank request result w) h
+  grows_by_one result (Serve rank) h = at_rank (nat_lt rank.0 (length old.state.inboxes)) result (λ w. served_inbox (TreeMayRefuse old new) rank result (waiting_at old.state.inboxes rank) w) h
+  grows_by_one result (Grant rank client tid) h = at_rank (nat_lt rank.0 (length old.state.inboxes)) result (λ w. granted (TreeMayRefuse old new) rank client tid result (first_waiting client tid old.state.inboxes) w) h
+  grows_by_one result (Split rank dir f nb) h = at_rank (nat_lt rank.0 (length old.state.inboxes)) result (λ w. administered told_nothing (SplitsLeaf old new rank dir f nb) result w) h
+  grows_by_one result (Merge rank dir f) h = at_rank (nat_lt rank.0 (length old.state.inboxes)) result (λ w. administered told_nothing (MergesLeaves old new rank dir f) result w) h
+  grows_by_one result (CommitBegin rank dir f) h = at_rank (nat_lt rank.0 (length old.state.inboxes)) result (λ done. administered told_job (BeginsAt old.state new.state rank (dir, f)) result done.0) h
+  grows_by_one result (CommitEnd encoded) h = administered told_nothing (EndsJobOf old.state.tree new.state.tree old.faults new.faults encoded.job) result h.0
+  grows_by_one result (CommitDrop number) h = administered told_nothing (Drops old.state.tree new.state.tree number) result h.0
+  grows_by_one result (CommitTree dir) h = administered told_nothing (SavesTree old.state.tree new.state.tree old.faults new.faults dir) result h.0
+  grows_by_one result Purge h = administered told_nothing (Purges old.state.tree new.state.tree old.faults new.faults) result h.0
   grows_by_one result (Evict rank) h = at_rank (nat_lt rank.0 (length old.state.inboxes)) result (λ done. administered told_nothing (EvictsOne old new rank) result done.0) h
   grows_by_one result (Start from dir f to) h =
       at_rank (nat_lt from.0 (length old.state.inboxes)) result (λ w. at_rank (nat_lt to.0 (length old.state.inboxes)) result (λ done. exported (StartsIn old.state new.state from (dir, f) to) result done) w) h
