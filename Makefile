@@ -68,7 +68,7 @@ test:
 	@$(NOTE)
 	@building/tests tests/claims/run tests/claims/names tests/claims/calls tests/claims/pages tests/claims/comments tests/units/run examples/check \
 	    examples/library/run tests/install/run tests/building/run tests/contributing/run tests/rows/run tests/operation_table/run tests/many_names/run \
-	    tests/random_runs/run tests/asked_runs/run tests/clients/run tests/answers/run tests/explain/run tests/refused_growths/run tests/serve/run \
+	    tests/random_runs/run tests/asked_runs/run tests/history/run tests/clients/run tests/answers/run tests/explain/run tests/refused_growths/run tests/serve/run \
 	    tests/store_file/run tests/rados/run
 
 endif

@@ -80,11 +80,13 @@ class Stepping:
 class Cluster:
     """The program with its pipe."""
 
-    def __init__(self, program, ranks=1, cache=None, store=None, chaos=None, flush_every=2000, restart_after=1_000_000):
+    def __init__(self, program, ranks=1, cache=None, store=None, chaos=None, flush_every=2000, restart_after=None):
         self.ranks, self.chaos, self.store, self.flush_every, self.restart_after = ranks, chaos, store, flush_every, restart_after
         usage = subprocess.run([program, 'script', '--help'], capture_output=True, text=True, check=True).stdout
         self.way = Asking() if '--ask' in usage else Stepping()
         self.command = [program, 'script', '--ranks', str(ranks), *self.way.words]
+        # the one client asks again for its last request alone, so no more is remembered than its reply
+        self.command += ['--history', '0'] if '--history' in usage else []
         self.command += ['--cache', str(cache)] if cache else []
         self.command += ['--store', store] if store else []
         self.tid = self.requests = 0
@@ -186,15 +188,15 @@ class Cluster:
                 break
 
     def look_after(self):
-        """What comes around with the requests: own turns, flushes, and a new program in place of one whose history is long."""
+        """What comes around with the requests: own turns, flushes, and a new program in place of the old one, where that is asked for."""
         self.requests += 1
         self.since_start += 1
         if self.requests % TURNS_AFTER == 0:
             self.take_turns()
-        if self.requests % min(self.flush_every, self.restart_after) == 0:
+        if self.requests % min(self.flush_every, self.restart_after or self.flush_every) == 0:
             try:
                 self.flush()
-                if self.store and self.since_start >= self.restart_after:
+                if self.store and self.restart_after and self.since_start >= self.restart_after:
                     self.end()
                     self.start()
             except OSError as error:

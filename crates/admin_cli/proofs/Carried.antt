@@ -1,9 +1,10 @@
 -- What a command does under the options of a script.
 use Rattle.admin_cli.proofs.Common.{Admin, Command, Executes, OutputLine, refl, subst, sym, ◌≡◌}
-use Rattle.std.specs.Prelude.{Bool, MatchBool, false, true}
+use Rattle.std.specs.Prelude.{Bool, IfOk, MatchBool, None, Option, Result, Some, false, true, ℕ}
 use Rattle.script_text.specs.declared.commands.Command.TheVariants as command
 use Rattle.script_text.specs.declared.store_commands.StoreCommand.{StoreCommand}
 use Rattle.script_text.specs.declared.store_commands.StoreCommand.TheVariants as store
+use Rattle.admin_cli.specs.Forgetting.{ForgetsBehind, ThenForgets}
 use Rattle.admin_cli.specs.Modes.{DoesUnder, DoesStoreUnder, plain}
 use Rattle.admin_cli.specs.Scripts.{Doing}
 
@@ -12,6 +13,11 @@ as_plain asks A B is h = subst (λ (b : Bool). MatchBool b A B) (sym is) h
 
 pub as_asked : (asks : Bool) (A B : Type 0) → asks ≡ true → A → MatchBool asks A B
 as_asked asks A B is h = subst (λ (b : Bool). MatchBool b A B) (sym is) h
+
+-- what was done, and what was forgotten behind it
+pub then_forgets : (history : Option ℕ) (Did : Admin → Type 0) (middle new : Admin) → Did middle → ForgetsBehind history middle new → ThenForgets history Did new
+then_forgets None Did middle new did same = subst Did (sym same) did
+then_forgets (Some keep) Did middle new did forgot = (middle, did, forgot)
 
 -- with no option a script does what it says
 same_store : (old new : Admin) (c : StoreCommand) (line : OutputLine) → DoesStoreUnder plain old new c line ≡ Executes old new (command.Store c) line

@@ -17,7 +17,8 @@ pub use Rattle.admin_cli.specs.declared.waiting.Mark.{Mark}
 pub use Rattle.admin_cli.specs.declared.waiting.Waiting.{Waiting}
 pub use Rattle.cluster_core.specs.Proposal.{Proposes}
 pub use Rattle.cluster_core.specs.SentBytes.{none_sent}
-pub use Rattle.cluster_core.specs.State.{BookState}
+pub use Rattle.cluster_core.specs.Sound.{IsSoundKept, StandsBehind}
+pub use Rattle.cluster_core.specs.State.{BookState, KeptState, places_of, whole_of}
 pub use Rattle.cluster_core.specs.declared.events.Answer.{Answer}
 pub use Rattle.cluster_core.specs.declared.events.Event.{Event}
 pub use Rattle.cluster_core.specs.declared.events.Event.TheVariants.{Serve}

@@ -1,20 +1,50 @@
 -- A load's book goes on.
-use Rattle.admin_cli.proofs.Common.{BookState, [], append-nil, refl, sym, ◌∙◌}
+use Rattle.admin_cli.proofs.Common.{IsSoundKept, KeptState, List, Option, Some, StandsBehind, [], ap, append-nil, append_assoc, drop, refl, subst, sym, take, take-append-drop, ℕ, ◌++◌, ◌∙◌, ◌≡◌}
+use Rattle.std.specs.FinMap as map
+use Rattle.std.specs.Prelude.{IfSome}
+use Rattle.mds_types.specs.Tree.{Tree}
+use Rattle.mds_types.specs.declared.entries.Entry.{Entry}
 use Rattle.asking.proofs.LoopLaws.{goes_on_then}
 use Rattle.admin_cli.specs.Left.{BookGrows}
+use Rattle.admin_cli.specs.Reports.{OpensEmpty}
 use Rattle.rank_threads.specs.Continued.{Continues}
 
 -- where nothing was done
-pub goes_on_here : (b : BookState) → BookGrows b b
-goes_on_here b = record { same_opening = refl; grows = ([], sym (append-nil b.history)) }
+pub goes_on_here : (b : KeptState) → BookGrows b b
+goes_on_here b = λ opening past given. record { forgotten = past; behind = given; grows = ([], sym (append-nil (past ++ b.history))) }
 
 -- and on
-pub goes_on_past : (a b c : BookState) → BookGrows a b → BookGrows b c → BookGrows a c
-goes_on_past a b c one two = record {
-  same_opening = two.same_opening ∙ one.same_opening;
-  grows = goes_on_then a.history b.history c.history one.grows two.grows;
-}
+pub goes_on_past : (a b c : KeptState) → BookGrows a b → BookGrows b c → BookGrows a c
+goes_on_past a b c one two = λ opening past given.
+    let first = one opening past given in
+    let then = two opening first.forgotten first.behind in
+    record { forgotten = then.forgotten; behind = then.behind; grows = goes_on_then (past ++ a.history) (first.forgotten ++ b.history) (then.forgotten ++ c.history) first.grows then.grows }
 
 -- as a run of threads leaves it
-pub goes_on_run : (b c : BookState) → Continues b.opening b.history c → BookGrows b c
-goes_on_run b c ran = record { same_opening = ran.same_opening; grows = ran.begins }
+pub goes_on_run : (b c : KeptState) → Continues b c → BookGrows b c
+goes_on_run b c ran = λ opening past given. record {
+  forgotten = past;
+  behind = ran.goes_on opening past given;
+  grows = (ran.begins.0, ap (λ (es : List Entry). past ++ es) ran.begins.1 ∙ sym (append_assoc past b.history ran.begins.0));
+}
+
+-- where the first entries were forgotten
+pub goes_on_forgot : (a b : KeptState) (count : ℕ) → b.history ≡ drop count a.history → ((opening : Tree) (past : List Entry) → StandsBehind opening past a → StandsBehind opening (past ++ take count a.history) b) → BookGrows a b
+goes_on_forgot a b count left on = λ opening past given.
+    let went = past ++ take count a.history in
+    let same : went ++ b.history ≡ past ++ a.history =
+    append_assoc past (take count a.history) b.history ∙ ap (λ (es : List Entry). past ++ es) (ap (λ (es : List Entry). take count a.history ++ es) left ∙ take-append-drop count a.history) in
+    record { forgotten = went; behind = on opening past given; grows = ([], same ∙ sym (append-nil (past ++ a.history))) }
+
+-- a book that grew from one that opened with the empty tree did, too
+pub opens_still : (a b : KeptState) → BookGrows a b → OpensEmpty a → OpensEmpty b
+opens_still a b grows opens = let its = grows map.empty opens.0 opens.1 in (its.forgotten, its.behind)
+
+-- so did a sound one that keeps that tree
+kept_opening : (kept : Option Tree) (opening tree : Tree) → kept ≡ Some tree → IfSome kept (λ (t : Tree). t ≡ opening) → tree ≡ opening
+kept_opening kept opening tree is holds = subst (λ (o : Option Tree). IfSome o (λ (t : Tree). t ≡ opening)) is holds
+
+pub opens_empty_of : (book : KeptState) → IsSoundKept book → book.opening ≡ Some map.empty → OpensEmpty book
+opens_empty_of book known is =
+    let same : map.empty ≡ known.0 = kept_opening book.opening known.0 map.empty is known.2.opened in
+    (known.1, subst (λ (t : Tree). StandsBehind t known.1 book) (sym same) known.2)

@@ -8,4 +8,5 @@ pub mod OwnTurnLaws
 pub mod PathLines
 pub mod PrintedLaws
 pub mod Progress
+pub mod ServedKept
 pub mod WaitLaws

@@ -1,5 +1,5 @@
 -- What a script prints is what one thread tells.
-use Rattle.admin_cli.proofs.Common.{Admin, Answer, Appends, BookState, Command, EndsScript, Err, Event, Executes, FaultKind, Fragment, IfOk, IfSome, Ino, IsFormatted, Keeps, List, MakesStep, None, Ok, Option, OutputLine, Rank, Refusal, Result, RunsInput, RunsLines, RunsNew, RunsOrNot, Some, StopsBefore, [], ap, append-nil, append_assoc, arith, inl, inr, length, refl, shown_line, subst, sym, text_of, ℕ, ◌++◌, ◌+◌, ◌∙◌, ◌∷◌, ◌≡◌}
+use Rattle.admin_cli.proofs.Common.{Admin, Answer, Appends, Command, EndsScript, Err, Event, Executes, FaultKind, Fragment, IfOk, IfSome, Ino, IsFormatted, Keeps, List, MakesStep, None, Ok, Option, OutputLine, Rank, Refusal, Result, RunsInput, RunsLines, RunsNew, RunsOrNot, Some, StopsBefore, [], ap, append-nil, append_assoc, arith, inl, inr, length, refl, shown_line, subst, sym, text_of, ℕ, ◌++◌, ◌+◌, ◌∙◌, ◌∷◌, ◌≡◌}
 use Rattle.std.specs.Prelude.{◌⊎◌, filter, flat_map, map, replicate, suc, zero}
 use Rattle.std.specs.List.{AllByRecursion}
 use Rattle.std.specs.FinMap as finite
@@ -13,15 +13,16 @@ use Rattle.std.specs.Prelude.{Contains}
 use Rattle.cluster_core.specs.Flush.{Flushes, KeepsBook}
 use Rattle.cluster_core.specs.OneThread.{IsAskedFor, IsSent, arrival, receipt_of, waiting_in}
 use Rattle.cluster_core.specs.SentBytes.{none_sent}
-use Rattle.cluster_core.specs.Sound.{IsSoundBook}
-use Rattle.cluster_core.specs.State.{State, new_state}
+use Rattle.cluster_core.specs.Sound.{IsSoundKept, StandsBehind}
+use Rattle.cluster_core.specs.State.{KeptState, State, new_state, places_of, whole_of}
 use Rattle.cluster_core.specs.declared.events.Answer.TheVariants as answer
 use Rattle.cluster_core.specs.declared.events.Event.TheVariants as event
 use Rattle.cluster_core.specs.declared.receipts.Receipt.{Receipt}
 use Rattle.cluster_core.proofs.ListLaws.{all_append, all_back, all_front, all_weaker, each_left, each_right}
 use Rattle.mds_types.specs.Tree.{Tree}
-use Rattle.cluster_core.proofs.NoReplyLaws.{TellsNone, tells_none}
-use Rattle.cluster_core.proofs.OneThreadLaws.{Served, as_one, served_none, served_on, served_one, served_same}
+use Rattle.cluster_core.proofs.NoReplyLaws.{TellsNone}
+use Rattle.cluster_core.proofs.OneThreadLaws.{as_one}
+use Rattle.admin_cli.proofs.ServedKept.{Served, in_places, in_whole, served_forgot, served_none, served_on, served_one, served_same, step_tells_none}
 use Rattle.cluster_core.proofs.SentLaws.{AreAmong, nested}
 use Rattle.script_text.specs.Script.{line_of}
 use Rattle.script_text.specs.Input.{lines_of}
@@ -42,14 +43,15 @@ use Rattle.admin_cli.specs.Left.{LeavesAdmin, LeavesOneThread, PrintsReplies}
 use Rattle.admin_cli.specs.OwnLines.{LacksForStep, OwnLine}
 use Rattle.admin_cli.specs.Printed.{PrintsOneThread, counted_with, ended_line, is_reply, receipt_line, request_of, requests_of}
 use Rattle.admin_cli.specs.Scripts.{Doing, DoesLine, LacksLine, LacksMemory, OfFirst, RunsLine}
-use Rattle.admin_cli.specs.Modes.{AsksLine, AsksOperation, AsksRequest, DoesUnder, DoesStoreUnder, AsksNow, SavesLine, SaysSaved, asked_line}
+use Rattle.admin_cli.specs.Forgetting.{ThenForgets}
+use Rattle.admin_cli.specs.Modes.{AsksLine, AsksOperation, AsksRequest, CarriesOut, DoesUnder, DoesStoreUnder, AsksNow, SavesLine, SaysSaved, asked_line}
 use Rattle.admin_cli.specs.declared.modes.Mode.{Mode}
 use Rattle.asking.specs.Ask.{NoneWaits}
 use Rattle.asking.specs.Reached.{receipt_in as told_in}
 use Rattle.mds_types.specs.History.{IsLegal}
 use Rattle.std.specs.Prelude.{Bool, MatchBool, false, true}
 use Rattle.admin_cli.specs.StepLines.{DoesEvent, IsStep, arrived_line}
-use Rattle.admin_cli.specs.StoreLines.{BeginsAlone, BeginsJob, CommitsAfter, CommitsLine, EndsKept, ExecutesStore, LacksForStore, LosesJob, begun_line, flushed_line}
+use Rattle.admin_cli.specs.StoreLines.{BeginsAlone, BeginsJob, CommitsAfter, CommitsLine, EndsKept, ExecutesStore, IsFlush, LacksForStore, LosesJob, begun_line, flushed_line}
 use Rattle.admin_cli.specs.declared.faults.ScriptFault.{ScriptFault}
 use Rattle.admin_cli.specs.declared.faults.FaultKind.TheVariants as fault
 use Rattle.cached_frag.specs.declared.jobs.Job.{Job as Begun}
@@ -120,28 +122,28 @@ shown_receipt (Err refusal) = refl
 module _ (sent : List Request) where
   -- what a line did, by what it printed
   pub record DidLine (old new : Admin) (printed : OutputLine) : Type 0 where
-    sound : IsSoundBook new.book
+    sound : IsSoundKept new.book
     served : Served old.book new.book sent (receipt_in printed)
 
   abbrev pub IsReady : Admin → Type 0
-  IsReady admin = IsSoundBook admin.book × AreAmong sent admin.book.core.state.inboxes
+  IsReady admin = IsSoundKept admin.book × AreAmong sent admin.book.core.state.inboxes
 
-  as_told : (old new : Admin) (printed : OutputLine) (told : List Receipt) → receipt_in printed ≡ told → IsSoundBook new.book → Served old.book new.book sent told → DidLine old new printed
+  as_told : (old new : Admin) (printed : OutputLine) (told : List Receipt) → receipt_in printed ≡ told → IsSoundKept new.book → Served old.book new.book sent told → DidLine old new printed
   as_told old new printed told is sound served = record { sound = sound; served = subst (λ (rs : List Receipt). Served old.book new.book sent rs) (sym is) served }
 
   -- a line that only reads
   only_read : (old new : Admin) (printed : OutputLine) → IsReady old → new ≡ old → receipt_in printed ≡ [] → DidLine old new printed
   only_read old new printed ready same none =
       let books : new.book ≡ old.book = ap (λ (a : Admin). a.book) same in
-      as_told old new printed [] none (subst IsSoundBook (sym books) ready.0) (served_same sent old.book new.book books ready.1)
+      as_told old new printed [] none (subst IsSoundKept (sym books) ready.0) (served_same sent old.book new.book books ready.1)
 
-  one_step : (old new : BookState) (result : Result Answer Refusal) (event : Event) → AreAmong sent old.core.state.inboxes → AllByRecursion (Contains sent) (arrival event) → IsStep old new result event → Served old new sent (receipt_of result)
-  one_step old new result event among has step = served_one sent old new result event step.stepped.stepped step.stepped.same_opening among has
+  one_step : (old new : KeptState) (result : Result Answer Refusal) (event : Event) → IsSoundKept old → AreAmong sent old.core.state.inboxes → AllByRecursion (Contains sent) (arrival event) → IsStep old new result event → Served old new sent (receipt_of result)
+  one_step old new result event known among has step = served_one sent old new result event known step among has
 
   -- a step whose line shows it
   shows_step : (old new : Admin) (result : Result Answer Refusal) (event : Event) (printed : OutputLine) → IsReady old → AllByRecursion (Contains sent) (arrival event) → IsStep old.book new.book result event → printed ≡ shown_line result → DidLine old new printed
   shows_step old new result event printed ready has step is =
-      as_told old new printed (receipt_of result) (ap receipt_in is ∙ shown_receipt result) step.sound (one_step old.book new.book result event ready.1 has step)
+      as_told old new printed (receipt_of result) (ap receipt_in is ∙ shown_receipt result) step.sound (one_step old.book new.book result event ready.0 ready.1 has step)
 
   does_event : (old new : Admin) (event : Event) (printed : OutputLine) → IsReady old → AllByRecursion (Contains sent) (arrival event) → DoesEvent old new event printed → DidLine old new printed
   does_event old new event printed ready has (_, _, _, steps) = shows_step old new steps.result event printed ready has steps.stepped steps.shown
@@ -149,23 +151,23 @@ module _ (sent : List Request) where
   -- a step of which no reply is told, whatever its line is
   silent_step : (old new : Admin) (result : Result Answer Refusal) (event : Event) (printed : OutputLine) → IsReady old → AllByRecursion (Contains sent) (arrival event) → IsStep old.book new.book result event → receipt_of result ≡ [] → receipt_in printed ≡ [] → DidLine old new printed
   silent_step old new result event printed ready has step none is =
-      as_told old new printed (receipt_of result) (is ∙ sym none) step.sound (one_step old.book new.book result event ready.1 has step)
+      as_told old new printed (receipt_of result) (is ∙ sym none) step.sound (one_step old.book new.book result event ready.0 ready.1 has step)
 
-  is_silent : (old new : BookState) (result : Result Answer Refusal) (event : Event) → IsStep old new result event → TellsNone event result
-  is_silent old new result event step = tells_none old.core new.core old.history new.history result event step.stepped.stepped.does
+  is_silent : (old new : KeptState) (result : Result Answer Refusal) (event : Event) → IsSoundKept old → IsStep old new result event → TellsNone event result
+  is_silent old new result event known step = step_tells_none old new result event known step
 
   -- an operation alone
   operated_after : (old middle new : Admin) (arrived : Result Answer Refusal) (printed : OutputLine) → IsReady middle → OperatesAfter middle.book new.book arrived printed → DidLine middle new printed
   operated_after old middle new (Ok answer) printed ready h = shows_step middle new h.result (event.Serve (record { 0 = 0 })) printed ready tt h.stepped h.shown
   operated_after old middle new (Err refusal) printed ready (same, is) =
-      as_told middle new printed [] (ap receipt_in is) (subst IsSoundBook (sym same) ready.0) (served_same sent middle.book new.book same ready.1)
+      as_told middle new printed [] (ap receipt_in is) (subst IsSoundKept (sym same) ready.0) (served_same sent middle.book new.book same ready.1)
 
   operates : (old new : Admin) (tid : ℕ) (op : Op) (printed : OutputLine) → IsReady old → Contains sent (record { client = 0; tid = tid; oldest = tid; op = op }) → OperatesLine old.book new.book tid op printed → DidLine old new printed
   operates old new tid op printed ready has h =
       let asked : Request = record { client = 0; tid = tid; oldest = tid; op = op } in
       let arrives : Event = event.Arrive (record { 0 = 0 }) asked in
-      let none : receipt_of h.arrived ≡ [] = is_silent old.book h.middle h.arrived arrives h.stepped in
-      let first : Served old.book h.middle sent [] = subst (λ (rs : List Receipt). Served old.book h.middle sent rs) none (one_step old.book h.middle h.arrived arrives ready.1 (has, tt) h.stepped) in
+      let none : receipt_of h.arrived ≡ [] = is_silent old.book h.middle h.arrived arrives ready.0 h.stepped in
+      let first : Served old.book h.middle sent [] = subst (λ (rs : List Receipt). Served old.book h.middle sent rs) none (one_step old.book h.middle h.arrived arrives ready.0 ready.1 (has, tt) h.stepped) in
       let middle : Admin = record old { book = h.middle } in
       let then = operated_after old middle new h.arrived printed (h.stepped.sound, first.waits) h.rest in
       record { sound = then.sound; served = served_on sent old.book h.middle new.book [] (receipt_in printed) first then.served }
@@ -178,7 +180,7 @@ module _ (sent : List Request) where
   -- a step whose line is no reply's, and of which none is told
   silent_line : (old new : Admin) (result : Result Answer Refusal) (event : Event) (printed : OutputLine) → IsReady old → AllByRecursion (Contains sent) (arrival event) → ((r : Result Answer Refusal) → TellsNone event r → receipt_of r ≡ [])
       → IsStep old.book new.book result event → receipt_in printed ≡ [] → DidLine old new printed
-  silent_line old new result event printed ready has none step is = silent_step old new result event printed ready has step (none result (is_silent old.book new.book result event step)) is
+  silent_line old new result event printed ready has none step is = silent_step old new result event printed ready has step (none result (is_silent old.book new.book result event ready.0 step)) is
 
   -- a rank's own turn
   makes_one : (old new : Admin) (event : Event) (printed : OutputLine) → IsReady old → AllByRecursion (Contains sent) (arrival event) → ((r : Result Answer Refusal) → TellsNone event r → receipt_of r ≡ [])
@@ -246,13 +248,16 @@ module _ (sent : List Request) where
       let then = commits_after h.middle new h.number printed (first.sound, none.waits) h.rest in
       record { sound = then.sound; served = served_on sent old.book h.middle.book new.book [] (receipt_in printed) none then.served }
 
-  flushed_none : (old new : BookState) → AreAmong sent old.core.state.inboxes → KeepsBook old new → Served old new sent []
-  flushed_none old new among kept =
-      served_none sent old new kept.opening (ap (λ (s : State). s.tree.limit) kept.core.left) (ap (λ (s : State). s.inboxes) kept.core.left) kept.history among
+  flushed_none : (old new : KeptState) → ((opening : Tree) (past : List Entry) → StandsBehind opening past old → StandsBehind opening past new) → AreAmong sent old.core.state.inboxes → KeepsBook old new → Served old new sent []
+  flushed_none old new on among kept =
+      served_none sent old new on (ap (λ (s : State). s.tree.limit) kept.core.left) (ap (λ (s : State). s.inboxes) kept.core.left) kept.history among
 
-  flushed : (old new : BookState) (result : Result (Unit {0}) Refusal) → AreAmong sent old.core.state.inboxes → Flushes old new result → Served old new sent []
-  flushed old new result among (inl hindered) = served_same sent old new hindered.left among
-  flushed old new result among (inr tried) = flushed_none old new among tried.kept
+  flushed : (old new : KeptState) (result : Result (Unit {0}) Refusal) → AreAmong sent old.core.state.inboxes → IsFlush old new result → Served old new sent []
+  flushed old new result among h = go h.outcome
+    where
+      go : Flushes old new result → Served old new sent []
+      go (inl hindered) = served_same sent old new hindered.left among
+      go (inr tried) = flushed_none old new h.goes_on among tried.kept
 
   flush_silent : (result : Result (Unit {0}) Refusal) → receipt_in (flushed_line result) ≡ []
   flush_silent (Ok done) = refl
@@ -266,7 +271,7 @@ module _ (sent : List Request) where
   executes_store old new (store.CommitTree dir) printed ready h = does_event old new (event.CommitTree dir) printed ready tt h
   executes_store old new store.Purge printed ready h = does_event old new event.Purge printed ready tt h
   executes_store old new store.Flush printed ready h =
-      as_told old new printed [] (ap receipt_in h.shown ∙ flush_silent h.result) h.flushed.sound (flushed old.book new.book h.result ready.1 h.flushed.outcome)
+      as_told old new printed [] (ap receipt_in h.shown ∙ flush_silent h.result) h.flushed.sound (flushed old.book new.book h.result ready.1 h.flushed)
   executes_store old new (store.Evict rank) printed ready h = does_event old new (event.Evict rank) printed ready tt h
   executes_store old new (store.Object name) printed ready (same, inl (shown, line, is)) = only_read old new printed ready same (ap receipt_in is)
   executes_store old new (store.Object name) printed ready (same, inr (is, takes)) = only_read old new printed ready same (ap receipt_in is)
@@ -295,7 +300,7 @@ module _ (sent : List Request) where
 
   -- what lines did, and what they printed
   record Did (old new : Admin) (text : List ℕ) : Type 0 where
-    sound : IsSoundBook new.book
+    sound : IsSoundKept new.book
     told : List Receipt
     printed : List (List ℕ)
     whole : text ≡ flat_map ended_line printed
@@ -305,7 +310,7 @@ module _ (sent : List Request) where
   did_none : (old new : Admin) (text : List ℕ) → IsReady old → new ≡ old → text ≡ [] → Did old new text
   did_none old new text ready same none =
       let books : new.book ≡ old.book = ap (λ (a : Admin). a.book) same in
-      record { sound = subst IsSoundBook (sym books) ready.0; told = []; printed = []; whole = none; replies = refl; served = served_same sent old.book new.book books ready.1 }
+      record { sound = subst IsSoundKept (sym books) ready.0; told = []; printed = []; whole = none; replies = refl; served = served_same sent old.book new.book books ready.1 }
 
   did_one : (old new : Admin) (text : List ℕ) (shown : OutputLine) → text ≡ text_of shown → DidLine old new shown → Did old new text
   did_one old new text shown is did = record {
@@ -417,20 +422,29 @@ module _ (sent : List Request) where
     where
       go : AsksNow old.book new.book rank request h.result → DidLine sent old new printed
       go (inl once) =
-          let one = once.one in
           as_told sent old new printed (told_in h.result) (ap receipt_in h.shown ∙ asked_receipt h.result) once.sound (record {
-            opening = once.same_opening;
-            limit = once.same_limit;
             waits = idle_among sent new.book.core.state.inboxes once.idle;
-            more = one.more;
-            grows = one.grows;
-            asked = all_weaker (IsSent (request ∷ [])) (IsSent sent) (λ e is. of_one sent request _ has is) one.more one.asked;
-            asked_for = all_weaker (IsAskedFor (request ∷ [])) (IsAskedFor sent) (λ r is. (is.0, of_one sent request is.0 has is.1, is.2, is.3)) (told_in h.result) one.asked_for;
-            held = one.agree.stand.held;
-            in_order = once.in_order;
+            from = λ opening past given.
+                let one = once.one opening past given in
+                let on = once.goes_on opening past given in
+                record {
+                  forgotten = past;
+                  behind = on;
+                  served = record {
+                    opening = refl;
+                    limit = once.same_limit;
+                    waits = idle_among sent new.book.core.state.inboxes once.idle;
+                    more = one.more;
+                    grows = one.grows;
+                    asked = all_weaker (IsSent (request ∷ [])) (IsSent sent) (λ e is. of_one sent request _ has is) one.more one.asked;
+                    asked_for = all_weaker (IsAskedFor (request ∷ [])) (IsAskedFor sent) (λ r is. (is.0, of_one sent request is.0 has is.1, is.2, is.3)) (told_in h.result) one.asked_for;
+                    held = one.agree.stand.held;
+                    in_order = in_whole opening past past old.book new.book (told_in h.result) given on once.in_order;
+                  };
+                };
           })
       go (inr (waits, is, same)) =
-          as_told sent old new printed [] (ap receipt_in h.shown ∙ (ap (λ (r : Result Receipt Refusal). receipt_in (asked_line r)) is)) (subst IsSoundBook (sym same) ready.0) (served_same sent old.book new.book same ready.1)
+          as_told sent old new printed [] (ap receipt_in h.shown ∙ (ap (λ (r : Result Receipt Refusal). receipt_in (asked_line r)) is)) (subst IsSoundKept (sym same) ready.0) (served_same sent old.book new.book same ready.1)
 
 -- a flush that is kept
 saved_silent : (result : Result (Unit {0}) Refusal) (printed : OutputLine) → SaysSaved result printed → receipt_in printed ≡ []
@@ -439,7 +453,7 @@ saved_silent (Ok done) printed (inr (why, is)) = ap receipt_in is
 saved_silent (Err refusal) printed is = ap receipt_in is
 
 saves : (sent : List Request) (old new : Admin) (printed : OutputLine) → IsReady sent old → SavesLine old new printed → DidLine sent old new printed
-saves sent old new printed ready h = as_told sent old new printed [] (saved_silent h.result printed h.shown) h.flushed.sound (flushed sent old.book new.book h.result ready.1 h.flushed.outcome)
+saves sent old new printed ready h = as_told sent old new printed [] (saved_silent h.result printed h.shown) h.flushed.sound (flushed sent old.book new.book h.result ready.1 h.flushed)
 
 either_way : {P : Type 0} (b : Bool) (A B : Type 0) → (A → P) → (B → P) → MatchBool b A B → P
 either_way true A B f g h = f h
@@ -458,7 +472,7 @@ carries_store mode sent old new (store.Evict rank) printed ready h = executes_st
 carries_store mode sent old new (store.Object name) printed ready h = executes_store sent old new (store.Object name) printed ready h
 carries_store mode sent old new store.Objects printed ready h = executes_store sent old new store.Objects printed ready h
 
-carries : (mode : Mode) (sent : List Request) (old new : Admin) (c : Command) (printed : OutputLine) → IsReady sent old → AllByRecursion (Contains sent) (request_of old.operations (line.Command c)) → DoesUnder mode old new c printed → DidLine sent old new printed
+carries : (mode : Mode) (sent : List Request) (old new : Admin) (c : Command) (printed : OutputLine) → IsReady sent old → AllByRecursion (Contains sent) (request_of old.operations (line.Command c)) → CarriesOut mode old new c printed → DidLine sent old new printed
 carries mode sent old new (command.Operation op) printed ready has h =
     either_way mode.asks (AsksOperation old new op printed) (Executes old new (command.Operation op) printed)
     (λ w. asks sent old new (record { 0 = 0 }) (record { client = 0; tid = old.operations + 1; oldest = old.operations + 1; op = op }) printed ready has.0 w.3)
@@ -491,7 +505,7 @@ carried_store mode old new (store.Evict rank) printed h = store_count old new (s
 carried_store mode old new (store.Object name) printed h = store_count old new (store.Object name) printed h
 carried_store mode old new store.Objects printed h = store_count old new store.Objects printed h
 
-carried : (mode : Mode) (old new : Admin) (c : Command) (printed : OutputLine) → DoesUnder mode old new c printed → new.operations ≡ counted_with old.operations (line.Command c)
+carried : (mode : Mode) (old new : Admin) (c : Command) (printed : OutputLine) → CarriesOut mode old new c printed → new.operations ≡ counted_with old.operations (line.Command c)
 carried mode old new (command.Operation op) printed h =
     either_way mode.asks (AsksOperation old new op printed) (Executes old new (command.Operation op) printed) (λ w. w.0) (command_count old new (command.Operation op) printed) h
 carried mode old new (command.Request rank request) printed h =
@@ -508,8 +522,31 @@ carried mode old new command.Subtrees printed h = command_count old new command.
 carried mode old new (command.Authority dir f) printed h = command_count old new (command.Authority dir f) printed h
 carried mode old new (command.Export c) printed h = command_count old new (command.Export c) printed h
 
+-- and then a beginning of the history is forgotten, where that is asked for
+module _ (Does : Doing) (one_of : AreAsOne Does) where
+  abbrev Then : Option ℕ → Doing
+  Then history old new c printed = ThenForgets history (λ middle. Does old middle c printed) new
+
+  then_serves : (history : Option ℕ) (sent : List Request) (old new : Admin) (c : Command) (printed : OutputLine) → IsReady sent old → AllByRecursion (Contains sent) (request_of old.operations (line.Command c)) → Then history old new c printed → DidLine sent old new printed
+  then_serves None sent old new c printed ready has h = one_of.serves sent old new c printed ready has h
+  then_serves (Some keep) sent old new c printed ready has (middle, did, forgot) =
+      let first = one_of.serves sent old middle c printed ready has did in
+      let f = forgot.3 in
+      let known = first.sound in
+      record {
+        sound = (known.0, known.1 ++ take f.count middle.book.history, f.goes_on known.0 known.1 known.2);
+        served = subst (λ (rs : List Receipt). Served old.book new.book sent rs) (append-nil (receipt_in printed))
+            (served_on sent old.book middle.book new.book (receipt_in printed) [] first.served (served_forgot sent keep middle.book new.book f first.served.waits));
+      }
+
+  then_counts : (history : Option ℕ) (old new : Admin) (c : Command) (printed : OutputLine) → Then history old new c printed → new.operations ≡ counted_with old.operations (line.Command c)
+  then_counts None old new c printed h = one_of.counts old new c printed h
+  then_counts (Some keep) old new c printed (middle, did, forgot) = forgot.0 ∙ one_of.counts old middle c printed did
+
 pub carries_as_one : (mode : Mode) → AreAsOne (DoesUnder mode)
-carries_as_one mode = record { serves = carries mode; counts = carried mode }
+carries_as_one mode =
+    let out : AreAsOne (CarriesOut mode) = record { serves = carries mode; counts = carried mode } in
+    record { serves = λ sent old new c printed. then_serves (CarriesOut mode) out mode.history sent old new c printed; counts = λ old new c printed. then_counts (CarriesOut mode) out mode.history old new c printed }
 
 -- ---- lines of a script
 
@@ -574,11 +611,12 @@ broken_of Does old done left (Ok all) front h = inl h.1
 broken_of Does old done left (Err stopped) front h = broken_at Does old left stopped.line stopped.kind front (Err stopped) refl h.1
 
 -- a script that ran over a book
-prints_run : (Does : Doing) → AreAsOne Does → (known before after : Option (List ℕ)) (result : Result (Unit {0}) ScriptFault) (admin : Admin) → IsSoundBook admin.book → admin.operations ≡ 0 → RunsInput Does admin known before after result
-    → PrintsOneThread admin.book.core.state.tree.limit admin.book.opening admin.book.history (waiting_in admin.book.core.state.inboxes) known before after result
-prints_run Does one_of known before after result admin sound none input =
+prints_run : (Does : Doing) → AreAsOne Does → (known before after : Option (List ℕ)) (result : Result (Unit {0}) ScriptFault) (admin : Admin) → IsSoundKept admin.book → admin.operations ≡ 0 → RunsInput Does admin known before after result
+    → (opening : Tree) (past : List Entry) → StandsBehind opening past admin.book
+    → PrintsOneThread admin.book.core.state.tree.limit opening (past ++ admin.book.history) (waiting_in admin.book.core.state.inboxes) known before after result
+prints_run Does one_of known before after result admin sound none input opening past given =
     let script = input.script in
-    let start : BookState = admin.book in
+    let start : KeptState = admin.book in
     let waiting = waiting_in start.core.state.inboxes in
     let made = requests_of 0 input.lines in
     let sent = waiting ++ made in
@@ -586,7 +624,8 @@ prints_run Does one_of known before after result admin sound none input =
     let all : AllByRecursion (Contains sent) (requests_of 0 (script.done ++ script.left)) = subst (λ (ls : List (List ℕ)). AllByRecursion (Contains sent) (requests_of 0 ls)) script.whole (each_right waiting made) in
     let asked : AllByRecursion (Contains sent) (requests_of admin.operations script.done) = subst (λ (n : ℕ). AllByRecursion (Contains sent) (requests_of n script.done)) (sym none) (requests_front sent 0 script.done script.left all) in
     let did = did_lines Does one_of sent admin script.new script.done script.text (sound, among) asked script.runs in
-    let its = as_one start script.new.book sent did.told did.sound did.served in
+    let to = did.served.from opening past given in
+    let its = as_one (whole_of opening past start) (whole_of opening to.forgotten script.new.book) sent did.told to.behind.behind.sound to.served in
     record {
       lines = input.lines;
       read = input.read;
@@ -596,7 +635,7 @@ prints_run Does one_of known before after result admin sound none input =
       broken = broken_of Does script.new (length script.done) script.left result script.front script.ended;
       told = did.told;
       replies = did.replies;
-      history = script.new.book.history;
+      history = to.forgotten ++ script.new.book.history;
       one = its.one;
       in_order = its.in_order;
     }
@@ -651,13 +690,13 @@ pub prints_nothing : (limit : ℕ) (known before : Option (List ℕ)) (result : 
 prints_nothing limit known before result = prints_none limit finite.empty [] [] known before before result (nothing_legal limit) (keeps_itself before)
 
 -- what a script prints over a book is what one thread tells
-pub prints_over : (Does : Doing) → AreAsOne Does → (book : BookState) → IsSoundBook book → (known before after : Option (List ℕ)) (result : Result (Unit {0}) ScriptFault)
-    → RunsOrNot Does (record { book = book; operations = 0; jobs = finite.empty; sent = none_sent }) known before after result
-    → PrintsOneThread book.core.state.tree.limit book.opening book.history (waiting_in book.core.state.inboxes) known before after result
-prints_over Does one_of book sound known before after result (inl runs) =
-    prints_run Does one_of known before after result (record { book = book; operations = 0; jobs = finite.empty; sent = none_sent }) sound refl runs
-prints_over Does one_of book sound known before after result (inr never) =
-    prints_none book.core.state.tree.limit book.opening book.history (waiting_in book.core.state.inboxes) known before after result sound.legal never.same
+pub prints_over : (Does : Doing) → AreAsOne Does → (book : KeptState) → IsSoundKept book → (known before after : Option (List ℕ)) (result : Result (Unit {0}) ScriptFault)
+    → RunsOrNot Does (record { book = book; operations = 0; jobs = finite.empty; sent = none_sent }) known before after result → (opening : Tree) (past : List Entry) → StandsBehind opening past book
+    → PrintsOneThread book.core.state.tree.limit opening (past ++ book.history) (waiting_in book.core.state.inboxes) known before after result
+prints_over Does one_of book sound known before after result (inl runs) opening past given =
+    prints_run Does one_of known before after result (record { book = book; operations = 0; jobs = finite.empty; sent = none_sent }) sound refl runs opening past given
+prints_over Does one_of book sound known before after result (inr never) opening past given =
+    prints_none book.core.state.tree.limit opening (past ++ book.history) (waiting_in book.core.state.inboxes) known before after result given.behind.sound.legal never.same
 
 -- ---- the book that a script leaves
 
@@ -666,12 +705,12 @@ module _ (sent : List Request) where
   same_did : (old new : Admin) → IsReady sent old → new ≡ old → Did sent old new []
   same_did old new ready same = did_none sent old new [] ready same refl
 
-  quiet_did : (old new : Admin) → IsSoundBook new.book → Served old.book new.book sent [] → Did sent old new []
+  quiet_did : (old new : Admin) → IsSoundKept new.book → Served old.book new.book sent [] → Did sent old new []
   quiet_did old new sound served = record { sound = sound; told = []; printed = []; whole = refl; replies = refl; served = served }
 
   loses_did : (old new : Admin) (rank : Rank) (dir : Ino) (f : Fragment) → IsReady sent old → LosesJob old new rank dir f → Did sent old new []
   loses_did old new rank dir f ready h =
-      quiet_did old new h.stepped.sound (one_step sent old.book new.book (Ok (answer.Job h.job)) (event.CommitBegin rank dir f) ready.1 tt h.stepped)
+      quiet_did old new h.stepped.sound (one_step sent old.book new.book (Ok (answer.Job h.job)) (event.CommitBegin rank dir f) ready.0 ready.1 tt h.stepped)
 
   alone_did : (old new : Admin) (rank : Rank) (dir : Ino) (f : Fragment) → IsReady sent old → BeginsAlone old new rank dir f → Did sent old new []
   alone_did old new rank dir f ready h =
@@ -785,9 +824,10 @@ printed_all sent old new text left d before after (Ok ended) (none, wrote) = rec
 printed_all sent old new text left d before after (Err fault) all = tt
 
 -- a script over a book leaves what one thread leaves
-pub leaves_over : (Does : Doing) → AreAsOne Does → (old : BookState) → IsSoundBook old → (new : Admin) (known before after : Option (List ℕ)) (result : Result (Unit {0}) ScriptFault)
-    → LeavesAdmin Does (record { book = old; operations = 0; jobs = finite.empty; sent = none_sent }) new known before after result → LeavesOneThread old new.book known before after result
-leaves_over Does one_of old sound new known before after result h =
+pub leaves_over : (Does : Doing) → AreAsOne Does → (old : KeptState) → IsSoundKept old → (new : Admin) (known before after : Option (List ℕ)) (result : Result (Unit {0}) ScriptFault)
+    → LeavesAdmin Does (record { book = old; operations = 0; jobs = finite.empty; sent = none_sent }) new known before after result
+    → (opening : Tree) (past : List Entry) → StandsBehind opening past old → LeavesOneThread opening past old new.book known before after result
+leaves_over Does one_of old sound new known before after result h opening past given =
     let admin : Admin = record { book = old; operations = 0; jobs = finite.empty; sent = none_sent } in
     let waiting = waiting_in old.core.state.inboxes in
     let made = requests_of 0 h.lines in
@@ -796,15 +836,17 @@ leaves_over Does one_of old sound new known before after result h =
     let all : AllByRecursion (Contains sent) (requests_of 0 (h.done ++ h.left)) = subst (λ (ls : List (List ℕ)). AllByRecursion (Contains sent) (requests_of 0 ls)) h.whole (each_right waiting made) in
     let to = did_to Does one_of sent admin h.reached new h.done h.text (sound, among) h.runs h.left all h.last in
     let did = to.did in
-    let its = as_one old new.book sent did.told did.sound did.served in
+    let end = did.served.from opening past given in
+    let its = as_one (whole_of opening past old) (whole_of opening end.forgotten new.book) sent did.told end.behind.behind.sound end.served in
     record {
       lines = h.lines;
       read = h.read;
       told = did.told;
+      forgotten = end.forgotten;
+      behind = end.behind;
       one = its.one;
-      in_order = its.in_order;
-      same_opening = did.served.opening;
-      same_limit = did.served.limit;
+      in_order = in_places opening past end.forgotten old new.book did.told given end.behind its.in_order;
+      same_limit = end.served.limit;
       printed = printed_all sent admin new h.text h.left to before after result h.all;
     }
 
@@ -813,12 +855,12 @@ none_wait zero = refl
 none_wait (suc ranks) = none_wait ranks
 
 -- so it is over a new book
-pub prints_new : (ranks cache limit : ℕ) (known before after : Option (List ℕ)) (result : Result (Unit {0}) ScriptFault) (book : BookState) → IsFormatted ranks cache limit book
-    → PrintsOneThread book.core.state.tree.limit book.opening book.history (waiting_in book.core.state.inboxes) known before after result → PrintsOneThread limit finite.empty [] [] known before after result
+pub prints_new : (ranks cache limit : ℕ) (known before after : Option (List ℕ)) (result : Result (Unit {0}) ScriptFault) (book : KeptState) → IsFormatted ranks cache limit book
+    → ((opening : Tree) (past : List Entry) → StandsBehind opening past book → PrintsOneThread book.core.state.tree.limit opening (past ++ book.history) (waiting_in book.core.state.inboxes) known before after result)
+    → PrintsOneThread limit finite.empty [] [] known before after result
 prints_new ranks cache limit known before after result book formatted h =
     let limited : book.core.state.tree.limit ≡ limit = ap (λ (s : State). s.tree.limit) formatted.state in
     let waits : waiting_in book.core.state.inboxes ≡ [] = ap (λ (s : State). waiting_in s.inboxes) formatted.state ∙ none_wait ranks in
     subst (λ (n : ℕ). PrintsOneThread n finite.empty [] [] known before after result) limited
-    (subst (λ (t : Tree). PrintsOneThread book.core.state.tree.limit t [] [] known before after result) formatted.opening
-    (subst (λ (es : List Entry). PrintsOneThread book.core.state.tree.limit book.opening es [] known before after result) formatted.history
-    (subst (λ (ws : List Request). PrintsOneThread book.core.state.tree.limit book.opening book.history ws known before after result) waits h)))
+    (subst (λ (es : List Entry). PrintsOneThread book.core.state.tree.limit finite.empty es [] known before after result) formatted.history
+    (subst (λ (ws : List Request). PrintsOneThread book.core.state.tree.limit finite.empty book.history ws known before after result) waits (h finite.empty [] formatted.goes_on)))

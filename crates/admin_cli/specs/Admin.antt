@@ -4,13 +4,13 @@ use Rattle.std.specs.FinMap as map
 use Rattle.std.specs.Ordering.{nat_cmp}
 use Rattle.cached_frag.specs.declared.jobs.Job.{Job}
 use Rattle.cluster_core.specs.SentBytes.{SentBytes}
-use Rattle.cluster_core.specs.State.{BookState}
+use Rattle.cluster_core.specs.State.{KeptState}
 use Rattle.admin_cli.specs.declared.commands.Admin as declared
 
 -- a book, how many lines with an operation alone were read for it, the jobs that were begun, by their numbers, and the
 -- bytes that exports sent
 pub record Admin : Type 0 where
-  pub book : BookState
+  pub book : KeptState
   pub operations : ℕ
   pub jobs : map.FinMap nat_cmp Job
   pub sent : SentBytes

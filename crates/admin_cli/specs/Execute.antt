@@ -1,5 +1,5 @@
 -- What a command of the script does to a book, and the line that it prints.
-use Rattle.std.specs.Prelude.{◌≡◌, ◌⊎◌, ℕ, ◌+◌, List, length, Result, Ok, Err}
+use Rattle.std.specs.Prelude.{◌≡◌, ◌⊎◌, ℕ, ◌+◌, List, Result, Ok, Err}
 use Rattle.mds_types.specs.declared.ids.Ino.{Ino}
 use Rattle.mds_types.specs.declared.refusals.Refusal.{Refusal}
 use Rattle.mds_types.specs.declared.operations.Op.{Op}
@@ -7,7 +7,7 @@ use Rattle.mds_types.specs.Frag.{Fragment}
 use Rattle.cluster_core.specs.declared.events.Answer.{Answer}
 use Rattle.cluster_core.specs.declared.events.Event.TheVariants.{Arrive, Serve as ServeEvent, Split as SplitEvent, Merge as MergeEvent, Grant as GrantEvent}
 use Rattle.cluster_core.specs.Administers.{ListsLeaves}
-use Rattle.cluster_core.specs.State.{BookState}
+use Rattle.cluster_core.specs.State.{KeptState, places_of}
 use Rattle.script_text.specs.declared.commands.Command.{Command}
 use Rattle.script_text.specs.declared.commands.Command.TheVariants.{Operation, Own, Request, Serve, History, Split, Merge, Leaves, Grant, Subtrees, Authority, Export, Store}
 use Rattle.script_output.specs.declared.lines.OutputLine.{OutputLine}
@@ -21,12 +21,12 @@ use Rattle.admin_cli.specs.StoreLines.{ExecutesStore, LacksForStore}
 
 -- an operation alone: it arrives at rank 0 as client 0 with this transaction number, and is served there if it wasn't
 -- refused
-abbrev pub OperatesAfter : (middle new : BookState) → Result Answer Refusal → OutputLine → Type 0
+abbrev pub OperatesAfter : (middle new : KeptState) → Result Answer Refusal → OutputLine → Type 0
 OperatesAfter middle new (Ok answer) line = StepsLine middle new (ServeEvent (record { 0 = 0 })) shown_line line
 OperatesAfter middle new (Err refusal) line = (new ≡ middle) × (line ≡ Refused refusal)
 
-pub record OperatesLine (old new : BookState) (tid : ℕ) (op : Op) (line : OutputLine) : Type 0 where
-  pub middle : BookState
+pub record OperatesLine (old new : KeptState) (tid : ℕ) (op : Op) (line : OutputLine) : Type 0 where
+  pub middle : KeptState
   pub arrived : Result Answer Refusal
   pub stepped : IsStep old middle arrived (Arrive (record {
     0 =
@@ -35,7 +35,7 @@ pub record OperatesLine (old new : BookState) (tid : ℕ) (op : Op) (line : Outp
   pub rest : OperatesAfter middle new arrived line
 
 -- the leaves of a directory were listed, or why not; the book is only read
-abbrev pub ListsLine : BookState → Ino → OutputLine → Type 0
+abbrev pub ListsLine : KeptState → Ino → OutputLine → Type 0
 ListsLine book dir line =
     ((leaves : List Fragment) × ListsLeaves book.core.state dir (Ok leaves) × (line ≡ Frags leaves))
     ⊎ ((refusal : Refusal) × ListsLeaves book.core.state dir (Err refusal) × (line ≡ Refused refusal))
@@ -50,7 +50,7 @@ Executes old new (Own rank) line = TakesTurn old new rank line
 Executes old new (Request rank request) line =
     (new.operations ≡ old.operations) × (new.jobs ≡ old.jobs) × (new.sent ≡ old.sent)
     × StepsLine old.book new.book (Arrive rank request) arrived_line line
-Executes old new History line = (new ≡ old) × (line ≡ HistoryLine (length old.book.history))
+Executes old new History line = (new ≡ old) × (line ≡ HistoryLine (places_of old.book))
 Executes old new (Split rank dir f nb) line = DoesEvent old new (SplitEvent rank dir f nb) line
 Executes old new (Merge rank dir f) line = DoesEvent old new (MergeEvent rank dir f) line
 Executes old new (Leaves dir) line = (new ≡ old) × ListsLine old.book dir line

@@ -1,11 +1,14 @@
 -- The book that a script, or a load, leaves behind.
-use Rattle.std.specs.Prelude.{◌≡◌, ◌⊎◌, ℕ, ◌++◌, [], List, filter, flat_map, length, map, Option, IfOk, IfSome, Result}
+use Rattle.std.specs.Prelude.{◌≡◌, ◌⊎◌, ℕ, ◌++◌, [], List, filter, flat_map, map, Option, IfOk, IfSome, Result}
 use Rattle.std.specs.Io.KnownBytes.{Appends}
 use Rattle.cluster_core.specs.declared.receipts.Receipt.{Receipt}
 use Rattle.cluster_core.specs.OneThread.{InOrder, IsOneThread, waiting_in}
 use Rattle.cluster_core.specs.Runs.{GoesOnFrom}
 use Rattle.cluster_core.specs.SentBytes.{none_sent}
-use Rattle.cluster_core.specs.State.{BookState}
+use Rattle.cluster_core.specs.Sound.{StandsBehind}
+use Rattle.cluster_core.specs.State.{KeptState, places_of}
+use Rattle.mds_types.specs.declared.entries.Entry.{Entry}
+use Rattle.mds_types.specs.Tree.{Tree}
 use Rattle.std.specs.FinMap as finite
 use Rattle.script_text.specs.Input.{lines_of}
 use Rattle.admin_cli.specs.Admin.{Admin}
@@ -31,7 +34,7 @@ pub record LeavesAdmin (Does : Doing) (old new : Admin) (known before after : Op
   pub all : IfOk result (λ ended. (left ≡ []) × Appends before after text)
 
 -- a script over a book left this book
-pub record LeavesBook (Does : Doing) (old new : BookState) (known before after : Option (List ℕ))
+pub record LeavesBook (Does : Doing) (old new : KeptState) (known before after : Option (List ℕ))
     (result : Result (Unit {0}) ScriptFault) : Type 0 where
   pub admin : Admin
   pub leaves : LeavesAdmin Does (record { book = old; operations = 0; jobs = finite.empty; sent = none_sent }) admin known before after result
@@ -45,23 +48,31 @@ pub record PrintsReplies (told : List Receipt) (before after : Option (List ℕ)
   pub written : Appends before after (flat_map ended_line printed)
   pub replies : filter is_reply printed ≡ map receipt_line told
 
--- a script over a book left a book whose history is that of one thread, which served the requests that waited and those
--- that the script's lines make; a script that ended well printed each of its replies
-pub record LeavesOneThread (old new : BookState) (known before after : Option (List ℕ))
+-- a script over a book that went on from this opening tree and past left a book that goes on from this tree, and whose
+-- whole history, with what is forgotten now, is that of one thread, which served the requests that waited and those that
+-- the script's lines make; a script that ended well printed each of its replies
+pub record LeavesOneThread (opening : Tree) (past : List Entry) (old new : KeptState) (known before after : Option (List ℕ))
     (result : Result (Unit {0}) ScriptFault) : Type 0 where
   pub lines : List (List ℕ)
   pub read : IfSome known (λ bytes. lines ≡ lines_of bytes)
   pub told : List Receipt
-  pub one : IsOneThread old.core.state.tree.limit old.opening old.history new.history
+  pub forgotten : List Entry
+  pub behind : StandsBehind opening forgotten new
+  pub one : IsOneThread old.core.state.tree.limit opening (past ++ old.history) (forgotten ++ new.history)
       (waiting_in old.core.state.inboxes ++ requests_of 0 lines) told
-  pub in_order : InOrder (length old.history) told (length new.history)
-  pub same_opening : new.opening ≡ old.opening
+  pub in_order : InOrder (places_of old) told (places_of new)
   pub same_limit : new.core.state.tree.limit ≡ old.core.state.tree.limit
   pub printed : IfOk result (λ ended. PrintsReplies told before after)
 
 -- ---- of a load
 
--- the book opened with the same tree, and its history begins with that from before
-pub record BookGrows (old new : BookState) : Type 0 where
-  pub same_opening : new.opening ≡ old.opening
-  pub grows : GoesOnFrom new.history old.history
+-- from whichever opening tree and past a book went on, it goes on from this tree, and its whole history, with what is
+-- forgotten now, begins with the whole one from before
+pub record GrowsBehind (opening : Tree) (past : List Entry) (old new : KeptState) : Type 0 where
+  pub forgotten : List Entry
+  pub behind : StandsBehind opening forgotten new
+  pub grows : GoesOnFrom (forgotten ++ new.history) (past ++ old.history)
+
+abbrev pub BookGrows : (old new : KeptState) → Type 0
+BookGrows old new =
+    (opening : Tree) (past : List Entry) → StandsBehind opening past old → GrowsBehind opening past old new

@@ -3,6 +3,7 @@ pub mod Authorities
 pub mod Execute
 pub mod ExportLines
 pub mod FaultText
+pub mod Forgetting
 pub mod Left
 pub mod Loads
 pub mod Modes

@@ -1,16 +1,18 @@
 -- What a command of a script does where an option says more than the script: a request is brought to its answer by its
--- own line, and a flush is kept in a file.
-use Rattle.std.specs.Prelude.{◌≡◌, ◌⊎◌, ◌+◌, ◌<◌, ◌∷◌, [], ℕ, cond, false, length, MatchBool, Result, Ok, Err}
+-- own line, a flush is kept in a file, and a beginning of the history is forgotten behind each line.
+use Rattle.std.specs.Prelude.{◌≡◌, ◌⊎◌, ◌+◌, ◌++◌, ◌<◌, ◌∷◌, [], List, cond, false, MatchBool, None, Result, Ok, Err}
 use Rattle.std.specs.FinMap as map
+use Rattle.mds_types.specs.declared.entries.Entry.{Entry}
 use Rattle.mds_types.specs.declared.ids.Rank.{Rank}
 use Rattle.mds_types.specs.declared.operations.Op.{Op}
 use Rattle.mds_types.specs.declared.refusals.Refusal.{Refusal}
 use Rattle.mds_types.specs.declared.refusals.Refusal.TheVariants.{InboxFull}
 use Rattle.mds_types.specs.declared.requests.Request.{Request as Asked}
+use Rattle.mds_types.specs.Tree.{Tree}
 use Rattle.inboxes.specs.Inboxes.{waiting_in_all}
 use Rattle.cluster_core.specs.OneThread.{InOrder, IsOneThread}
-use Rattle.cluster_core.specs.Sound.{IsSoundBook}
-use Rattle.cluster_core.specs.State.{BookState}
+use Rattle.cluster_core.specs.Sound.{StandsBehind, IsSoundKept}
+use Rattle.cluster_core.specs.State.{KeptState, places_of}
 use Rattle.cluster_core.specs.declared.receipts.Receipt.{Receipt}
 use Rattle.asking.specs.Ask.{NoneWaits}
 use Rattle.asking.specs.Once.{AsksOnce}
@@ -25,28 +27,33 @@ use Rattle.script_output.specs.declared.lines.OutputLine.TheVariants.{Flushed, R
 use Rattle.admin_cli.specs.Admin.{Admin}
 use Rattle.admin_cli.specs.declared.modes.Mode.{Mode}
 use Rattle.admin_cli.specs.Execute.{Executes}
+use Rattle.admin_cli.specs.Forgetting.{ThenForgets}
 use Rattle.admin_cli.specs.StoreLines.{IsFlush, is_hindered}
 
 -- a script is run as it is written
 abbrev pub plain : Mode
-plain = record { asks = false; keeps = false }
+plain = record { asks = false; keeps = false; history = None }
 
 -- ---- a request that is brought to its answer
 
 -- a request was asked at a rank of a book where nothing waits, and nothing waits then
-pub record IsAskedOnce (old new : BookState) (rank : Rank) (request : Asked) (result : Result Receipt Refusal)
+pub record IsAskedOnce (old new : KeptState) (rank : Rank) (request : Asked) (result : Result Receipt Refusal)
     : Type 0 where
   pub none : NoneWaits old.core.state.inboxes
-  pub asked : AsksOnce old.core new.core old.history new.history rank request result
-  pub one : IsOneThread old.core.state.tree.limit old.opening old.history new.history (request ∷ []) (receipt_in result)
-  pub in_order : InOrder (length old.history) (receipt_in result) (length new.history)
+  pub asked : (opening : Tree) (past : List Entry) → StandsBehind opening past old
+      → AsksOnce old.core new.core (past ++ old.history) (past ++ new.history) rank request result
+  pub one : (opening : Tree) (past : List Entry) → StandsBehind opening past old
+      → IsOneThread old.core.state.tree.limit opening (past ++ old.history) (past ++ new.history) (request ∷ [])
+      (receipt_in result)
+  pub in_order : InOrder (places_of old) (receipt_in result) (places_of new)
   pub idle : NoneWaits new.core.state.inboxes
+  pub goes_on : (opening : Tree) (past : List Entry) → StandsBehind opening past old → StandsBehind opening past new
   pub same_opening : new.opening ≡ old.opening
   pub same_limit : new.core.state.tree.limit ≡ old.core.state.tree.limit
-  pub sound : IsSoundBook new
+  pub sound : IsSoundKept new
 
 -- so it was; where something waits, which no line of such a script leaves, it is refused InboxFull, and all is as it was
-abbrev pub AsksNow : (old new : BookState) → Rank → Asked → Result Receipt Refusal → Type 0
+abbrev pub AsksNow : (old new : KeptState) → Rank → Asked → Result Receipt Refusal → Type 0
 AsksNow old new rank request result =
     IsAskedOnce old new rank request result
     ⊎ ((0 < waiting_in_all old.core.state.inboxes) × (result ≡ Err InboxFull) × (new ≡ old))
@@ -56,7 +63,7 @@ abbrev pub asked_line : Result Receipt Refusal → OutputLine
 asked_line (Ok r) = Reply r.client r.tid r.place r.first r.reply
 asked_line (Err refusal) = Refused refusal
 
-pub record AsksLine (old new : BookState) (rank : Rank) (request : Asked) (line : OutputLine) : Type 0 where
+pub record AsksLine (old new : KeptState) (rank : Rank) (request : Asked) (line : OutputLine) : Type 0 where
   pub result : Result Receipt Refusal
   pub asked : AsksNow old new rank request result
   pub shown : line ≡ asked_line result
@@ -104,20 +111,25 @@ DoesStoreUnder mode old new (store.Evict rank) line = Executes old new (Store (s
 DoesStoreUnder mode old new (store.Object name) line = Executes old new (Store (store.Object name)) line
 DoesStoreUnder mode old new store.Objects line = Executes old new (Store store.Objects) line
 
--- what a command does under these options: what it does in any script, but for these three
-abbrev pub DoesUnder : Mode → (old new : Admin) → Command → OutputLine → Type 0
-DoesUnder mode old new (Operation op) line =
+-- what a command does by these options: what it does in any script, but for these three
+abbrev pub CarriesOut : Mode → (old new : Admin) → Command → OutputLine → Type 0
+CarriesOut mode old new (Operation op) line =
     MatchBool mode.asks (AsksOperation old new op line) (Executes old new (Operation op) line)
-DoesUnder mode old new (Request rank request) line =
+CarriesOut mode old new (Request rank request) line =
     MatchBool mode.asks (AsksRequest old new rank request line) (Executes old new (Request rank request) line)
-DoesUnder mode old new (Store command) line = DoesStoreUnder mode old new command line
-DoesUnder mode old new (Serve rank) line = Executes old new (Serve rank) line
-DoesUnder mode old new (Own rank) line = Executes old new (Own rank) line
-DoesUnder mode old new History line = Executes old new History line
-DoesUnder mode old new (Split rank dir f nb) line = Executes old new (Split rank dir f nb) line
-DoesUnder mode old new (Merge rank dir f) line = Executes old new (Merge rank dir f) line
-DoesUnder mode old new (Leaves dir) line = Executes old new (Leaves dir) line
-DoesUnder mode old new (Grant rank client tid) line = Executes old new (Grant rank client tid) line
-DoesUnder mode old new Subtrees line = Executes old new Subtrees line
-DoesUnder mode old new (Authority dir f) line = Executes old new (Authority dir f) line
-DoesUnder mode old new (Export command) line = Executes old new (Export command) line
+CarriesOut mode old new (Store command) line = DoesStoreUnder mode old new command line
+CarriesOut mode old new (Serve rank) line = Executes old new (Serve rank) line
+CarriesOut mode old new (Own rank) line = Executes old new (Own rank) line
+CarriesOut mode old new History line = Executes old new History line
+CarriesOut mode old new (Split rank dir f nb) line = Executes old new (Split rank dir f nb) line
+CarriesOut mode old new (Merge rank dir f) line = Executes old new (Merge rank dir f) line
+CarriesOut mode old new (Leaves dir) line = Executes old new (Leaves dir) line
+CarriesOut mode old new (Grant rank client tid) line = Executes old new (Grant rank client tid) line
+CarriesOut mode old new Subtrees line = Executes old new Subtrees line
+CarriesOut mode old new (Authority dir f) line = Executes old new (Authority dir f) line
+CarriesOut mode old new (Export command) line = Executes old new (Export command) line
+
+-- a line with a command under these options: behind what it does the history is as short as they say
+abbrev pub DoesUnder : Mode → (old new : Admin) → Command → OutputLine → Type 0
+DoesUnder mode old new command line =
+    ThenForgets mode.history (λ middle. CarriesOut mode old middle command line) new

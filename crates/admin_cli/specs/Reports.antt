@@ -1,12 +1,13 @@
 -- What a run prints.
-use Rattle.std.specs.Prelude.{◌≡◌, ◌⊎◌, ℕ, Bool, true, false, List, [], ◌∷◌, ◌++◌, length, codes, IsSorted, Option, Result, Ok, Err}
+use Rattle.std.specs.Prelude.{◌≡◌, ◌⊎◌, ℕ, Bool, true, false, List, [], ◌∷◌, ◌++◌, codes, IsSorted, Option, Result, Ok, Err}
 use Rattle.std.specs.Ordering.{nat_cmp}
 use Rattle.std.specs.Cmp.Lexicographic.{slice_cmp}
 use Rattle.std.specs.Fmt.{decimal}
 use Rattle.std.specs.FinMap as map
 use Rattle.std.specs.Io.KnownBytes.{Appends, Keeps}
-use Rattle.cluster_core.specs.Sound.{IsSoundBook}
-use Rattle.cluster_core.specs.State.{BookState}
+use Rattle.mds_types.specs.declared.entries.Entry.{Entry}
+use Rattle.cluster_core.specs.Sound.{StandsBehind}
+use Rattle.cluster_core.specs.State.{KeptState, places_of}
 use Rattle.script_output.specs.Writing.{AppendsBeginning}
 use Rattle.admin_cli.specs.declared.workload.serving.ServeFault.{ServeFault}
 use Rattle.admin_cli.specs.declared.workload.serving.ServeFault.TheVariants.{Fault, Write}
@@ -20,23 +21,26 @@ abbrev pub path_lines : List (List ℕ) → List ℕ
 path_lines [] = []
 path_lines (path ∷ paths) = path ++ codes "\n" ++ path_lines paths
 
--- the lines before the paths: the length of the history, and whether the receipts agree with it
+-- the lines before the paths: how many requests were applied, and whether the receipts agree with the history
 abbrev pub head_text : ℕ → Bool → List ℕ
 head_text served true = codes "served " ++ decimal served ++ codes "\naudit ok\n"
 head_text served false = codes "served " ++ decimal served ++ codes "\naudit failed\n"
 
--- the text of a run whose history is so long: its first lines, and paths in the order of their bytes
+-- the text of a run after which so many were: its first lines, and paths in the order of their bytes
 pub record Reports (served : ℕ) (agrees : Bool) (text : List ℕ) : Type 0 where
   pub paths : List (List ℕ)
   pub in_order : AreInOrder paths
   pub whole : text ≡ head_text served agrees ++ path_lines paths
 
+-- a book opened with the empty tree, whatever of its history is forgotten
+abbrev pub OpensEmpty : KeptState → Type 0
+OpensEmpty book = (past : List Entry) × StandsBehind map.empty past book
+
 -- so it is of a sound book that opened with the empty tree
 pub record IsText (agrees : Bool) (text : List ℕ) : Type 0 where
-  pub book : BookState
-  pub sound : IsSoundBook book
-  pub opening : book.opening ≡ map.empty
-  pub reports : Reports (length book.history) agrees text
+  pub book : KeptState
+  pub opening : OpensEmpty book
+  pub reports : Reports (places_of book) agrees text
 
 -- what is written: all of the text, at a write fault a beginning of it, and nothing where there is no text
 abbrev pub ServesOut : (before after : Option (List ℕ)) → Result (Unit {0}) ServeFault → Type 0

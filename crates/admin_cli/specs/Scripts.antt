@@ -1,9 +1,9 @@
 -- What a script does to a book, line after line, and what it writes.
-use Rattle.std.specs.Prelude.{◌≡◌, ◌⊎◌, ℕ, ◌+◌, ◌<◌, ◌≤◌, List, [], ◌∷◌, ◌++◌, length, codes, Option, IfSome, Result, Ok, Err}
+use Rattle.std.specs.Prelude.{◌≡◌, ◌⊎◌, ℕ, ◌+◌, ◌<◌, ◌≤◌, List, [], ◌∷◌, ◌++◌, length, codes, Option, Some, IfSome, Result, Ok, Err}
 use Rattle.std.specs.Io.KnownBytes.{Appends, Keeps}
 use Rattle.std.specs.FinMap as map
-use Rattle.cluster_core.specs.Sound.{IsSoundBook}
-use Rattle.cluster_core.specs.State.{BookState, new_caches, new_state}
+use Rattle.cluster_core.specs.Sound.{StandsBehind}
+use Rattle.cluster_core.specs.State.{KeptState, new_caches, new_state}
 use Rattle.script_text.specs.declared.commands.Command.{Command}
 use Rattle.script_text.specs.declared.lines.Line.{Line}
 use Rattle.script_text.specs.declared.lines.Line.TheVariants as line
@@ -129,18 +129,18 @@ pub record RunsInput (Does : Doing) (old : Admin) (known before after : Option (
 -- a book as `format` makes it with so many ranks, a cache of so many places for each, and so many entries that a
 -- directory may have: a sound book with an empty tree, an empty history, the state of a new cluster, and its caches,
 -- each of that size and with no place taken but that of the root's leaf at rank 0. Its store told no fault
-pub record IsFormatted (ranks cache limit : ℕ) (book : BookState) : Type 0 where
-  pub opening : book.opening ≡ map.empty
+pub record IsFormatted (ranks cache limit : ℕ) (book : KeptState) : Type 0 where
+  pub opening : book.opening ≡ Some map.empty
   pub history : book.history ≡ []
   pub state : book.core.state ≡ new_state ranks limit
   pub places : book.core.caches ≡ new_caches ranks cache
-  pub sound : IsSoundBook book
+  pub goes_on : StandsBehind map.empty [] book
   pub faults : book.core.faults ≡ 0
 
 -- a whole script, from a new book, with no line read yet
 pub record RunsFormatted (Does : Doing) (ranks cache limit : ℕ) (known before after : Option (List ℕ))
     (result : Result (Unit {0}) ScriptFault) : Type 0 where
-  pub book : BookState
+  pub book : KeptState
   pub formatted : IsFormatted ranks cache limit book
   pub runs : RunsInput Does (record {
     book =

@@ -1,21 +1,26 @@
 -- One step of a book, and the line that shows what it came to.
-use Rattle.std.specs.Prelude.{◌≡◌, length, Result, Ok, Err}
+use Rattle.std.specs.Prelude.{◌≡◌, List, length, Result, Ok, Err}
+use Rattle.mds_types.specs.declared.entries.Entry.{Entry}
+use Rattle.mds_types.specs.Tree.{Tree}
 use Rattle.mds_types.specs.declared.refusals.Refusal.{Refusal}
 use Rattle.cluster_core.specs.declared.events.Answer.{Answer}
 use Rattle.cluster_core.specs.declared.events.Answer.TheVariants.{Deferred, Forwarded, Job, Nothing, Reply, Sent}
 use Rattle.cluster_core.specs.declared.events.Event.{Event}
-use Rattle.cluster_core.specs.State.{BookState}
+use Rattle.cluster_core.specs.State.{KeptState, whole_of}
 use Rattle.cluster_core.specs.Runs.{StepsBook}
-use Rattle.cluster_core.specs.Sound.{IsSoundBook}
+use Rattle.cluster_core.specs.Sound.{StandsBehind, IsSoundKept}
 use Rattle.script_output.specs.declared.lines.OutputLine.{OutputLine}
 use Rattle.script_output.specs.declared.lines.OutputLine.TheVariants.{Reply as ReplyLine, Forwarded as ForwardedLine, Deferred as DeferredLine, Queued, Nothing as NothingLine, Job as JobLine, Sent as SentLine, Refused}
 use Rattle.admin_cli.specs.Admin.{Admin}
 
--- one event led from a book to the next with this result, by all that the contract of a book's step says; its store,
--- which has all its objects in memory, tells no fault
-pub record IsStep (old new : BookState) (result : Result Answer Refusal) (event : Event) : Type 0 where
-  pub stepped : StepsBook old new result event
-  pub sound : IsSoundBook new
+-- one event led from a book to the next with this result, by all that the contract of a book's step says, whichever
+-- opening tree and past the book goes on from; its store, which has all its objects in memory, tells no fault
+pub record IsStep (old new : KeptState) (result : Result Answer Refusal) (event : Event) : Type 0 where
+  pub stepped : (opening : Tree) (past : List Entry) → StandsBehind opening past old
+      → StepsBook (whole_of opening past old) (whole_of opening past new) result event
+  pub goes_on : (opening : Tree) (past : List Entry) → StandsBehind opening past old → StandsBehind opening past new
+  pub same_opening : new.opening ≡ old.opening
+  pub sound : IsSoundKept new
   pub faults : new.core.faults ≡ 0
 
 -- the line that shows what a step came to
@@ -34,7 +39,7 @@ arrived_line (Ok answer) = Queued
 arrived_line (Err refusal) = Refused refusal
 
 -- one step of the book, and the line that shows what it came to
-pub record StepsLine (old new : BookState) (event : Event) (line_of : Result Answer Refusal → OutputLine)
+pub record StepsLine (old new : KeptState) (event : Event) (line_of : Result Answer Refusal → OutputLine)
     (line : OutputLine) : Type 0 where
   pub result : Result Answer Refusal
   pub stepped : IsStep old new result event

@@ -1,8 +1,9 @@
 -- What a command on the store does, and the line that it prints.
-use Rattle.std.specs.Prelude.{◌≡◌, ◌⊎◌, ◌==◌, ℕ, Bool, true, false, cond, List, Option, Some, None, Result, Ok, Err, OnOk}
+use Rattle.std.specs.Prelude.{◌≡◌, ◌⊎◌, ◌==◌, ◌++◌, ℕ, Bool, true, false, cond, List, Option, Some, None, Result, Ok, Err, OnOk}
 use Rattle.std.specs.FinMap as map
 use Rattle.std.specs.Ordering.{nat_cmp}
 use Rattle.cached_frag.specs.declared.jobs.Job.{Job as Begun}
+use Rattle.mds_types.specs.declared.entries.Entry.{Entry}
 use Rattle.mds_types.specs.declared.ids.Ino.{Ino}
 use Rattle.mds_types.specs.declared.ids.Rank.{Rank}
 use Rattle.mds_types.specs.declared.refusals.Refusal.{Refusal}
@@ -10,12 +11,13 @@ use Rattle.mds_types.specs.declared.refusals.Refusal.TheVariants.{NoMemory, Stal
 use Rattle.mds_types.specs.Refusal.{refusal_number}
 use Rattle.mds_types.specs.Frag.{Fragment}
 use Rattle.mds_types.specs.History.{after}
+use Rattle.mds_types.specs.Tree.{Tree}
 use Rattle.objstore.specs.Objects.{Objects as Stored}
 use Rattle.cached_frag.specs.declared.jobs.Job.{Job as Begun}
 use Rattle.cached_frag.specs.Commit.{carried}
 use Rattle.cluster_core.specs.Flush.{AreExact, Flushes, IsColdTree}
-use Rattle.cluster_core.specs.Sound.{IsSoundBook}
-use Rattle.cluster_core.specs.State.{BookState}
+use Rattle.cluster_core.specs.Sound.{StandsBehind, IsSoundKept}
+use Rattle.cluster_core.specs.State.{KeptState}
 use Rattle.cluster_core.specs.declared.events.Answer.{Answer}
 use Rattle.cluster_core.specs.declared.events.Answer.TheVariants.{Deferred, Forwarded, Job, Nothing, Reply, Sent}
 use Rattle.cluster_core.specs.declared.events.Event.{Event}
@@ -135,14 +137,15 @@ LacksForCommit old new rank dir f = LosesJob old new rank dir f ⊎ BeginsAlone 
 
 -- a flush led from a book to the next with this result, by all that its contract says; the store, which has all
 -- its objects in memory, tells no fault
-pub record IsFlush (old new : BookState) (result : Result (Unit {0}) Refusal) : Type 0 where
-  pub cold : OnOk result (IsColdTree new.core.state.tree.objects
-      (after old.core.state.tree.limit old.opening old.history))
+pub record IsFlush (old new : KeptState) (result : Result (Unit {0}) Refusal) : Type 0 where
+  pub cold : OnOk result ((opening : Tree) (past : List Entry) → StandsBehind opening past old
+      → IsColdTree new.core.state.tree.objects (after old.core.state.tree.limit opening (past ++ old.history)))
   pub exact : OnOk result (AreExact new.core.state.tree)
   pub clean : OnOk result (new.core.state.tree.unsaved ≡ map.empty)
   pub purged : OnOk result (new.core.state.tree.purge ≡ map.empty)
   pub outcome : Flushes old new result
-  pub sound : IsSoundBook new
+  pub goes_on : (opening : Tree) (past : List Entry) → StandsBehind opening past old → StandsBehind opening past new
+  pub sound : IsSoundKept new
   pub faults : new.core.faults ≡ 0
 
 -- the line of a flush

@@ -1,8 +1,8 @@
-//! What the options of a script change: a request is brought to its answer by its own line, and a flush is kept in a
-//! file.
+//! What the options of a script change: a request is brought to its answer by its own line, a flush is kept in a file,
+//! and a beginning of the history is forgotten behind each line.
 ghost use Rattle.std.specs.Prelude.{◌≡◌, ◌+◌, ◌<◌, ◌≤◌, ◌^◌, IfOk, OnErr};
 ghost use Rattle.admin_cli.specs.Execute.{LacksForCommand};
-ghost use Rattle.admin_cli.specs.Modes.{AsksOperation, AsksRequest, DoesUnder, DoesStoreUnder, AsksNow, asked_line as line_of};
+ghost use Rattle.admin_cli.specs.Modes.{AsksOperation, AsksRequest, CarriesOut, DoesUnder, DoesStoreUnder, AsksNow, asked_line as line_of};
 ghost use Rattle.admin_cli.specs.Admin.{seen};
 
 use crate::commands::Admin;
@@ -18,6 +18,7 @@ use std::thread::Threads;
 
 impl<S: Keep + Drop> Admin<S> {
     /// Does what a command asks for under the options of the script, and answers the line to print; else as `execute`.
+    #[tactic(auto, using(crate::proofs::Carried::then_forgets))]
     #[inline(never)]
     pub fn carry(
         &mut self,
@@ -27,6 +28,24 @@ impl<S: Keep + Drop> Admin<S> {
     ) -> Result<OutputLine, AllocError>
         requires { self.old.operations + 1 < 2 ^ 64 }
         ensures line { IfOk result (DoesUnder mode (seen self.old) (seen self.new) command) }
+        ensures err { OnErr result (LacksForCommand (seen self.old) (seen self.new) command) }
+        ensures count { self.new.operations ≤ self.old.operations + 1 }
+    {
+        let shown = self.carry_out(rt, mode, command)?;
+        self.forget(mode);
+        Ok(shown)
+    }
+
+    // Does so, and forgets nothing.
+    #[inline(always)]
+    fn carry_out(
+        &mut self,
+        rt: &(impl AllocGlobal + Threads + Sync),
+        mode: Mode,
+        command: Command,
+    ) -> Result<OutputLine, AllocError>
+        requires { self.old.operations + 1 < 2 ^ 64 }
+        ensures line { IfOk result (CarriesOut mode (seen self.old) (seen self.new) command) }
         ensures err { OnErr result (LacksForCommand (seen self.old) (seen self.new) command) }
         ensures count { self.new.operations ≤ self.old.operations + 1 }
     {

@@ -19,6 +19,8 @@ pub enum Options<'a> {
         limit: Limit,
         /// Whether a request is brought to its answer by its own line.
         asks: bool,
+        /// How many entries of the history stay behind each line; all of them where none is said.
+        history: Option<usize>,
         /// The file that has the tree, and takes it at each flush.
         store: Option<&'a str>,
         /// Whether standard error tells why a line was refused, deferred or forwarded, or is no command.
@@ -71,6 +73,7 @@ fn of_script<'a>(script: &ArgMatches<'a>) -> Option<Options<'a>>
             cache,
             limit,
             asks: script.get_flag("ask"),
+            history: script.get_one::<usize>("history"),
             store: script.get_str("store"),
             explains: script.get_flag("explain"),
         });
@@ -156,6 +159,7 @@ fn script<'a>(alloc: Global) -> Result<Command<'a>, AllocError> {
         .arg(limit(alloc))?
         .arg(ask(alloc))?
         .arg(explain(alloc))?
+        .arg(history(alloc))?
         .arg(file(alloc))
 }
 
@@ -219,6 +223,14 @@ fn explain<'a>(alloc: Global) -> Arg<'a> {
         .long("explain")
         .action(ArgAction::SetTrue)
         .help("Say on standard error why a line was refused, deferred or forwarded")
+}
+
+fn history<'a>(alloc: Global) -> Arg<'a> {
+    Arg::new(alloc, "history")
+        .long("history")
+        .value_name("N")
+        .value_parser(value_parser!(usize))
+        .help("Forget behind each line all but the last N requests of the history")
 }
 
 fn file<'a>(alloc: Global) -> Arg<'a> {

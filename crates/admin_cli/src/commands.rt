@@ -7,6 +7,7 @@ ghost use Rattle.admin_cli.specs.StepLines.{shown_line as line_of};
 ghost use Rattle.admin_cli.specs.Admin.{seen};
 
 use crate::kept_jobs::KeptJobs;
+use crate::modes::Mode;
 use cluster_core::{Answer, Book, Event, KeptBytes};
 use keeping::Keep;
 use mds_types::{Frag, Ino, Op, Rank, Refusal, Request};
@@ -28,6 +29,7 @@ pub struct Admin<S: Keep + Drop> {
 impl<S: Keep + Drop> Admin<S> {
     ghost use Rattle.cluster_core.specs.declared.events.Event.TheVariants.{Arrive, Merge, Serve, Split};
     ghost use Rattle.admin_cli.specs.Execute.{Executes, LacksForCommand, ListsLine, OperatesLine};
+    ghost use Rattle.admin_cli.specs.Forgetting.{ForgetsBehind};
     ghost use Rattle.admin_cli.specs.StepLines.{DoesEvent, IsStep, StepsLine, arrived_line};
 
     /// An administrator of this book, who has read no line yet.
@@ -64,6 +66,18 @@ impl<S: Keep + Drop> Admin<S> {
         book
     }
 
+    /// Forgets behind a line what the script's options say. Takes memory for kept replies alone, and forgets less where it
+    /// is refused.
+    #[inline(always)]
+    pub(crate) fn forget(&mut self, mode: Mode)
+        ensures count { self.new.operations ≡ self.old.operations }
+        ensures forgot { ForgetsBehind mode.history (seen self.old) (seen self.new) }
+    {
+        if let Some(keep) = mode.history {
+            let _ = self.book.forget(keep);
+        }
+    }
+
     /// Does what a command asks for, and answers the line to print. So many lines were read that one more fits 64 bits.
     /// An error is want of memory that the script itself needs: for a job that it keeps, once the step has given it;
     /// for room to keep the bytes of an export, or for a copy of what it kept, before the step; or for a list of the
@@ -89,7 +103,7 @@ impl<S: Keep + Drop> Admin<S> {
             Command::Request(rank, request) => Ok(self.arrive(alloc, rank, request)),
             Command::Serve(rank) => Ok(self.serve(alloc, rank)),
             Command::Own(rank) => self.own_turn(alloc, rank),
-            Command::History => Ok(OutputLine::History(self.book.history().len() as u64)),
+            Command::History => Ok(OutputLine::History(self.book.places() as u64)),
             Command::Split {
                 rank,
                 ino,

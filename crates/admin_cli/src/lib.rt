@@ -25,4 +25,6 @@ pub use modes::Mode;
 pub use script::{Ran, run_new, run_over, run_script};
 pub use serving::{serve, serve_over};
 pub use telling::{Aloud, Tell, Untold};
-pub use workload::{CACHE, Load, ServeFault, Served, run_over_book, run_serve, run_watched};
+pub use workload::{
+    CACHE, Load, ServeFault, Served, opens_empty, run_over_book, run_serve, run_watched,
+};

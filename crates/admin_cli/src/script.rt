@@ -1,7 +1,10 @@
 //! Running a script.
-ghost use Rattle.std.specs.Prelude.{◌≡◌, ◌+◌, ◌<◌, ◌≤◌, ◌^◌, [], false, length, true, IfSome};
+ghost use Rattle.std.specs.Prelude.{◌≡◌, ◌+◌, ◌++◌, ◌<◌, ◌≤◌, ◌^◌, [], List, false, length, true, IfSome};
 ghost use Rattle.std.specs.FinMap as map;
+ghost use Rattle.mds_types.specs.Tree.{Tree};
+ghost use Rattle.mds_types.specs.declared.entries.Entry.{Entry as Applied};
 ghost use Rattle.cluster_core.specs.SentBytes.{none_sent};
+ghost use Rattle.cluster_core.specs.Sound.{StandsBehind};
 ghost use Rattle.script_text.specs.declared.commands.Command.TheVariants.{Operation};
 ghost use Rattle.script_text.specs.declared.lines.Line.TheVariants as asked;
 ghost use Rattle.cluster_core.specs.OneThread.{waiting_in};
@@ -101,9 +104,10 @@ pub struct Ran<S: Keep + Drop> {
 }
 
 /// Runs a script over a book, as `run_script` does over a new one, under these options: whether a request is brought to
-/// its answer by its own line, and whether a flush is kept in the store's file. The lines that begin with `reply ` are the
-/// replies of one thread, to the requests that waited in the book and those that the lines make. The book that it leaves
-/// has the history of that thread: each line that was done is in it, also one that could not be printed.
+/// its answer by its own line, whether a flush is kept in the store's file, and how many entries of the history stay
+/// behind each line. The lines that begin with `reply ` are the replies of one thread, to the requests that waited in the
+/// book and those that the lines make. The book that it leaves has the history of that thread, with what it has forgotten:
+/// each line that was done is in it, also one that could not be printed.
 pub fn run_over<H, R, W, S, T>(
     rt: &H,
     reader: R,
@@ -118,11 +122,13 @@ where
     W: Write,
     S: Keep + Drop,
     T: Tell,
-    ensures one_thread { PrintsOneThread book.core.state.tree.limit book.opening book.history
+    ensures one_thread { (opening : Tree) (past : List Applied) → StandsBehind opening past book
+        → PrintsOneThread book.core.state.tree.limit opening (past ++ book.history)
         (waiting_in book.core.state.inboxes) (R.remaining reader) (W.contents writer.old) (W.contents writer.new)
         result.ended }
-    ensures left { LeavesOneThread book result.book (R.remaining reader) (W.contents writer.old) (W.contents writer.new)
-        result.ended }
+    ensures left { (opening : Tree) (past : List Applied) → StandsBehind opening past book
+        → LeavesOneThread opening past book result.book (R.remaining reader) (W.contents writer.old)
+        (W.contents writer.new) result.ended }
     ensures ran { RunsOrNot (DoesUnder mode) (record { book = book; operations = 0; jobs = map.empty; sent = none_sent })
         (R.remaining reader) (W.contents writer.old) (W.contents writer.new) result.ended }
     ensures leaves { LeavesBook (DoesUnder mode) book result.book (R.remaining reader) (W.contents writer.old)
@@ -141,6 +147,7 @@ where
 const PLAIN: Mode = Mode {
     asks: false,
     keeps: false,
+    history: None,
 };
 
 // A book over a new store; nothing where memory for it is refused.
@@ -323,6 +330,7 @@ fn do_operation<W: Write, S: Keep + Drop>(
         (W.contents writer.old) (W.contents writer.new) result }
 {
     let came = admin.operate(alloc, op);
+    admin.forget(mode);
     if waiting.put_step(alloc, line, &came).is_ok() {
         drop(came);
         return Ok(());
@@ -351,6 +359,7 @@ fn ask_operation<W: Write, S: Keep + Drop>(
         waiting.new line (W.contents writer.old) (W.contents writer.new) result }
 {
     let shown = admin.ask_operation(alloc, op);
+    admin.forget(mode);
     let printed = print(alloc, line, &shown, waiting, writer);
     drop(shown);
     printed

@@ -1,9 +1,7 @@
 //! What `cephmeta serve` runs.
-ghost use Rattle.std.specs.Prelude.{◌≡◌};
-ghost use Rattle.std.specs.FinMap as map;
 ghost use Rattle.admin_cli.specs.Left.{BookGrows};
 ghost use Rattle.admin_cli.specs.Loads.{IsLoad};
-ghost use Rattle.admin_cli.specs.Reports.{ServesOut};
+ghost use Rattle.admin_cli.specs.Reports.{OpensEmpty, ServesOut};
 
 use crate::workload::{Load, Progress, ServeFault, Served, run_over_book, run_serve, run_watched};
 use cluster_core::Book;
@@ -56,7 +54,7 @@ where
     H: Threads + Wait + Sync + AllocGlobal + Eprint,
     S: Keep + Drop + Send,
     requires load { IsLoad load.ranks load.workers load.clients load.creates }
-    requires opening { book.opening ≡ map.empty }
+    requires opening { OpensEmpty book }
     ensures served { ServesOut (W.contents writer.old) (W.contents writer.new) result.ended }
     ensures left { BookGrows book result.book }
 {

@@ -14,4 +14,4 @@ mod steps;
 
 pub use loads::Load;
 pub use progress::Progress;
-pub use serving::{CACHE, ServeFault, Served, run_over_book, run_serve, run_watched};
+pub use serving::{CACHE, ServeFault, Served, opens_empty, run_over_book, run_serve, run_watched};

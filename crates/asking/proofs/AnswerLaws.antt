@@ -1,5 +1,5 @@
 -- From what steps give to the answer of what was asked.
-use Rattle.asking.proofs.Common.{Answer, Answers, Frozen, None, Nothing, Arrive, ArrivesAt, AsksAlone, Bool, BookState, HasCome, Contains, Core, Deferred, Entry, Err, Forwarded, GrantsEach, GrantsThem, Inboxes, IsApplied, IsNewAtMaster, IsDeferred, IsForwarded, IsFrozenAt, IsLeft, IsMaster, IsRepeated, IsSound, IsTakenOut, KeepsButGrants, KeepsUnclean, LacksNumberToServe, Leaf, List, MatchBool, NoInodes, NoMemory, NoneWaits, NotAuthority, Ok, Pin, Question, Rank, Receipt, Refusal, RefusesAsk, RefusesRequest, Request, Result, Roots, Rules, Some, State, Steps, StillWaits, StoreFault, NothingToEvict, TreeMayRefuse, TreeState, Trimmed, UsesStep, WaitsAlone, WhyItWaits, WhyNotGranted, [], ap, arith, false, first_waiting, grant_of, inl, inr, is_directory, is_for, is_pin, left_without, length, list_any, main_leaf, nat_lt, one_authority, refl, set, set-set, Served, ServesTo, shown_tree, subst, sym, told_as, true, waiting_at, with_last, with_waiting, without_request, would_change, ℕ, ◌∙◌, ◌∷◌, ◌≡◌, ◌≢◌, ◌⊎◌}
+use Rattle.asking.proofs.Common.{Answer, Answers, Frozen, None, Nothing, Arrive, ArrivesAt, AsksAlone, Bool, BookState, HasCome, HasComeBehind, KeptState, StandsBehind, Tree, whole_of, Contains, Core, Deferred, Entry, Err, Forwarded, GrantsEach, GrantsThem, Inboxes, IsApplied, IsNewAtMaster, IsDeferred, IsForwarded, IsFrozenAt, IsLeft, IsMaster, IsRepeated, IsSound, IsTakenOut, KeepsButGrants, KeepsUnclean, LacksNumberToServe, Leaf, List, MatchBool, NoInodes, NoMemory, NoneWaits, NotAuthority, Ok, Pin, Question, Rank, Receipt, Refusal, RefusesAsk, RefusesRequest, Request, Result, Roots, Rules, Some, State, Steps, StillWaits, StoreFault, NothingToEvict, TreeMayRefuse, TreeState, Trimmed, UsesStep, WaitsAlone, WhyItWaits, WhyNotGranted, [], ap, arith, false, first_waiting, grant_of, inl, inr, is_directory, is_for, is_pin, left_without, length, list_any, main_leaf, nat_lt, one_authority, refl, set, set-set, Served, ServesTo, shown_tree, subst, sym, told_as, true, waiting_at, with_last, with_waiting, without_request, would_change, ℕ, ◌++◌, ◌∙◌, ◌∷◌, ◌≡◌, ◌≢◌, ◌⊎◌}
 use Rattle.std.specs.FinMap as map
 use Rattle.std.specs.FinMap.{get-empty}
 use Rattle.std.specs.Prelude.{OnOk}
@@ -82,6 +82,14 @@ module _ (q : Question) (mid : BookState) (sound : IsSound q.opening q.history q
           → Answers q mid (Err reason)
       go true e h = absurd (omega (arith, h.1, ap (λ (w : List Request). length w) (none q.rank)))
       go false e h = inl (named h.0, ltb-false _ _ e, h.1, h.2)
+
+-- what is asked of a book, behind the entries that are forgotten
+abbrev pub question : Tree → List Entry → KeptState → Rank → Request → Question
+question opening past book rank request = record { core = book.core; history = past ++ book.history; opening = opening; rank = rank; request = request }
+
+pub come_behind : (opening : Tree) (past : List Entry) (old mid : KeptState) (rank : Rank) (request : Request) → StandsBehind opening past old → StandsBehind opening past mid → NoneWaits old.core.state.inboxes → (answer : Answer)
+    → Steps old.core mid.core (past ++ old.history) (past ++ mid.history) (Ok answer) (Arrive rank request) → UsesStep old.core mid.core (Ok answer) (Arrive rank request) → HasComeBehind (question opening past old rank request) past mid rank request.client request.tid
+come_behind opening past old mid rank request goes on none answer steps uses = record { behind = on; come = arrived (question opening past old rank request) (whole_of opening past mid) goes.behind.sound none answer steps uses }
 
 -- a request that comes in is told nothing
 pub told_nothing : (old mid : BookState) (rank : Rank) (request : Request) (answer : Answer) → Steps old.core mid.core old.history mid.history (Ok answer) (Arrive rank request) → answer ≡ Nothing

@@ -5,6 +5,7 @@ use Rattle.std.specs.FinMap as map
 use Rattle.std.specs.Prelude.{MatchResult, slice_get}
 use Rattle.std.proofs.lemmas.Bool.{cases_lt}
 use Rattle.std.proofs.lemmas.List.{append_assoc}
+use Rattle.cluster_core.proofs.Forgotten.{behind_one}
 use Rattle.cluster_core.proofs.RunLaws.{step_of}
 use Rattle.cluster_core.specs.Runs.{GoesOnFrom}
 use Rattle.cluster_core.specs.declared.events.Answer.TheVariants.{Job, Nothing, Reply, Sent}
@@ -21,11 +22,18 @@ use Rattle.asking.proofs.StrayLaws.{all_stray_from, lowest_first}
 pub goes_on_then : (past mid now : List Entry) → GoesOnFrom mid past → GoesOnFrom now mid → GoesOnFrom now past
 goes_on_then past mid now (one, is) (two, same) = (one ++ two, same ∙ ap (λ (xs : List Entry). xs ++ two) is ∙ append_assoc past one two)
 
+-- behind the same entries that are forgotten
+pub grows_behind : (gone past now : List Entry) → GoesOnFrom now past → GoesOnFrom (gone ++ now) (gone ++ past)
+grows_behind gone past now (rest, is) = (rest, ap (λ (l : List Entry). gone ++ l) is ∙ sym (append_assoc gone past rest))
+
 pub stays : (past now : List Entry) → now ≡ past → GoesOnFrom now past
 stays past now same = ([], same ∙ sym (append-nil past))
 
-pub served_on : (old new : Core) (past mid now : List Entry) (rank : Rank) (result : Result Answer Refusal) → mid ≡ past → Steps old new mid now result (Serve rank) → GoesOnFrom now past
-served_on old new past mid now rank result same steps = subst (GoesOnFrom now) same (step_of old new mid now result (Serve rank) steps.does).grows
+-- where these are forgotten, and others kept
+pub served_on : (gone : List Entry) (old new : Core) (past mid now : List Entry) (rank : Rank) (result : Result Answer Refusal) → mid ≡ past → Steps old new (gone ++ mid) (gone ++ now) result (Serve rank) → GoesOnFrom now past
+served_on gone old new past mid now rank result same steps =
+    let grown = (step_of old new (gone ++ mid) (gone ++ now) result (Serve rank) steps.does).grows in
+    subst (GoesOnFrom now) same (grown.0, behind_one gone now (mid ++ grown.0) (grown.1 ∙ append_assoc gone mid grown.0))
 
 -- ---- exports stand as they stood
 

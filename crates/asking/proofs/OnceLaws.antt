@@ -1,7 +1,7 @@
 -- An ask that is given up leaves nothing.
-use Rattle.asking.proofs.Common.{BookState, Core, Err, Inboxes, IsTakenOut, List, NoneWaits, Pin, Rank, Refusal, RefusesAsk, Request, State, StillWaits, WhyItWaits, [], ap, get_or-set_other, inl, inr, subst, sym, waiting_at, with_waiting, without_request, ℕ, ◌<◌, ◌∙◌, ◌∷◌, ◌≡◌, ◌⊎◌}
+use Rattle.asking.proofs.Common.{BookState, Core, Entry, Err, Inboxes, IsTakenOut, KeptState, List, NoneWaits, Pin, Rank, Refusal, RefusesAsk, Request, State, StillWaits, Tree, WhyItWaits, [], ap, get_or-set_other, inl, inr, subst, sym, waiting_at, whole_of, with_waiting, without_request, ℕ, ◌<◌, ◌++◌, ◌∙◌, ◌∷◌, ◌≡◌, ◌⊎◌}
 use Rattle.std.proofs.lemmas.Bool.{cases_eq}
-use Rattle.cluster_core.specs.GivenUp.{GivesUp, GivesUpIn}
+use Rattle.cluster_core.specs.GivenUp.{GivesUpIn}
 use Rattle.asking.specs.Drain.{IsLowest}
 use Rattle.asking.specs.Once.{AsksOnce, IsGivenUp, Leaves, WhyNone}
 use Rattle.asking.specs.declared.drains.Waiter.{Waiter}
@@ -32,7 +32,7 @@ module _ (old mid : BookState) (rank : Rank) (request : Request) (reason : Refus
       go (inr (inr (inr (why, s)))) = let clash : [] ≡ request ∷ [] = sym (idle s.at) ∙ stands s in absurd cc
 
   -- it waits, and is given up
-  module _ (found : Waiter) (is : IsLowest mid.core.state.inboxes found) (new : BookState) (given : GivesUp mid new found.rank) where
+  module _ (found : Waiter) (is : IsLowest mid.core.state.inboxes found) (new : BookState) (given : GivesUpIn mid.core new.core found.rank (waiting_at mid.core.state.inboxes found.rank)) (still : new.history ≡ mid.history) where
     idle_clash : NoneWaits mid.core.state.inboxes → Once new
     idle_clash idle = let clash : [] ≡ is.request ∷ is.rest = sym (idle found.rank) ∙ is.front in absurd cc
 
@@ -54,11 +54,11 @@ module _ (old mid : BookState) (rank : Rank) (request : Request) (reason : Refus
       at = λ i. record { 0 = there i }
 
       given_so : GivesUpIn mid.core new.core s.at (request ∷ [])
-      given_so = subst (GivesUpIn mid.core new.core s.at) (stands s) (subst (λ (r : Rank). GivesUpIn mid.core new.core r (waiting_at mid.core.state.inboxes r)) at given.given)
+      given_so = subst (GivesUpIn mid.core new.core s.at) (stands s) (subst (λ (r : Rank). GivesUpIn mid.core new.core r (waiting_at mid.core.state.inboxes r)) at given)
 
       left : IsGivenUp old.core.state new.core.state old.history new.history request
       left = record {
-        same = given.same ∙ s.same;
+        same = still ∙ s.same;
         left =
             ap (λ (c : Core). c.state) given_so
             ∙ ap (λ (t : State). record t { inboxes = with_waiting t.inboxes s.at []; pins = without_request t.pins request }) s.alone.kept.left
@@ -90,9 +90,12 @@ none_waits_once old new rank request reason none (why, inl (same, still)) = subs
 none_waits_once old new rank request reason none (why, inr is) = subst (λ (s : State). NoneWaits s.inboxes) (sym is.left) none
 
 -- an ask that was refused, and what waits then given up
-pub once : (old mid new : BookState) (rank : Rank) (request : Request) (reason : Refusal) → NoneWaits old.core.state.inboxes → RefusesAsk old.core mid.core old.history mid.history rank request reason → Leaves mid new → AsksOnce old.core new.core old.history new.history rank request (Err reason)
-once old mid new rank request reason none h (inl (idle, same)) = subst (λ (b : BookState). AsksOnce old.core b.core old.history b.history rank request (Err reason)) (sym same) (none_left old mid rank request reason none h idle)
-once old mid new rank request reason none h (inr (found, is, given)) = given_left old mid rank request reason none h found is new given
+pub once : (old : BookState) (opening : Tree) (past : List Entry) (mid new : KeptState) (rank : Rank) (request : Request) (reason : Refusal) → NoneWaits old.core.state.inboxes → RefusesAsk old.core mid.core old.history (past ++ mid.history) rank request reason → Leaves mid new
+    → AsksOnce old.core new.core old.history (past ++ new.history) rank request (Err reason)
+once old opening past mid new rank request reason none h (inl (idle, same)) =
+    subst (λ (b : KeptState). AsksOnce old.core b.core old.history (past ++ b.history) rank request (Err reason)) (sym same) (none_left old (whole_of opening past mid) rank request reason none h idle)
+once old opening past mid new rank request reason none h (inr (found, is, given)) =
+    given_left old (whole_of opening past mid) rank request reason none h found is (whole_of opening past new) given.given (ap (λ (l : List Entry). past ++ l) given.same)
 
 -- and the history is as it was
 pub kept_once : (old new : BookState) (rank : Rank) (request : Request) (reason : Refusal) → AsksOnce old.core new.core old.history new.history rank request (Err reason) → new.history ≡ old.history

@@ -1,5 +1,5 @@
 -- What asking is to whoever sends requests: one plain tree, served by one thread.
-use Rattle.asking.proofs.Common.{Answer, BookState, Entry, Event, IsSoundBook, List, NoneWaits, Refusal, Request, Result, Runs, [], ap, append-nil, inl, inr, arith, length, refl, subst, sym, ℕ, ◌++◌, ◌∙◌, ◌∷◌, ◌≡◌}
+use Rattle.asking.proofs.Common.{Answer, BookState, Entry, Event, InOrder, IsSoundBook, KeptState, List, NoneWaits, Refusal, Request, Result, Runs, StandsBehind, Tree, [], ap, append-nil, inl, inr, arith, length, places_of, refl, subst, sym, ℕ, ◌++◌, ◌∙◌, ◌∷◌, ◌≡◌}
 use Rattle.std.specs.Prelude.{suc}
 use Rattle.inboxes.specs.Inboxes.{Inboxes}
 use Rattle.mds_types.specs.History.{IsLegal}
@@ -7,6 +7,7 @@ use Rattle.cluster_core.specs.GivenUp.{GivesUpIn}
 use Rattle.cluster_core.specs.State.{Core}
 use Rattle.cluster_core.specs.OneThread.{IsOneThread, arrivals, receipts_of, waiting_in}
 use Rattle.cluster_core.specs.declared.receipts.Receipt.{Receipt}
+use Rattle.cluster_core.proofs.Forgotten.{places_behind}
 use Rattle.cluster_core.proofs.LimitStays.{limit_stays}
 use Rattle.cluster_core.proofs.OneThreadLaws.{ServesAsOne, run_as_one}
 use Rattle.asking.specs.Once.{Leaves}
@@ -39,6 +40,18 @@ refused_as_one old new request sound same = record {
   agree = record { stand = record { held = tt; newer = tt; apart = tt }; as_many = (let e = ap length same in omega (arith, e)) };
 }
 
+-- ---- places, which are counted from the first entry ever
+
+pub order_kept : (opening : Tree) (past : List Entry) (old new : KeptState) (told : List Receipt) → StandsBehind opening past old → StandsBehind opening past new
+    → InOrder (length (past ++ old.history)) told (length (past ++ new.history)) → InOrder (places_of old) told (places_of new)
+order_kept opening past old new told goes on order =
+    subst (λ (n : ℕ). InOrder n told (places_of new)) (places_behind opening past old goes)
+    (subst (λ (n : ℕ). InOrder (length (past ++ old.history)) told n) (places_behind opening past new on) order)
+
+-- as many as there were, where no entry was added
+pub places_still : (opening : Tree) (past : List Entry) (old new : KeptState) → StandsBehind opening past old → StandsBehind opening past new → past ++ new.history ≡ past ++ old.history → places_of new ≡ places_of old
+places_still opening past old new goes on same = sym (places_behind opening past new on) ∙ (ap (λ (l : List Entry). length l) same ∙ places_behind opening past old goes)
+
 -- ---- how many entries a directory may have
 
 abbrev pub limit_of : BookState → ℕ
@@ -54,7 +67,7 @@ limit_through start end (event ∷ events) (result ∷ results) (next, one, soun
 pub asked_keeps_limit : (old new : BookState) (request : Request) (most : ℕ) (result : Result Receipt Refusal) → IsBroughtBy request most result old new → limit_of new ≡ limit_of old
 asked_keeps_limit old new request most result by = limit_through old new by.events by.results by.ran
 
-pub left_keeps_limit : (old new : BookState) → Leaves old new → limit_of new ≡ limit_of old
-left_keeps_limit old new (inl (idle, same)) = ap (λ (b : BookState). limit_of b) same
+pub left_keeps_limit : (old new : KeptState) → Leaves old new → new.core.state.tree.limit ≡ old.core.state.tree.limit
+left_keeps_limit old new (inl (idle, same)) = ap (λ (b : KeptState). b.core.state.tree.limit) same
 left_keeps_limit old new (inr (found, is, given)) =
     ap (λ (c : Core). c.state.tree.limit) (subst (GivesUpIn old.core new.core found.rank) is.front given.given)

@@ -1,5 +1,5 @@
 -- Where nothing waits, nothing waits after a step that brings no request.
-use Rattle.asking.proofs.Common.{BookState, Entry, Inboxes, List, Receipt, Refusal, Request, Result, State, Tree, [], ap, append-nil, arith, inl, inr, length, refl, subst, ℕ, ◌++◌, ◌<◌, ◌∙◌, ◌∷◌, ◌≡◌}
+use Rattle.asking.proofs.Common.{Entry, Inboxes, KeptState, List, Receipt, Refusal, Request, Result, State, Tree, [], ap, append-nil, arith, inl, inr, length, refl, subst, ℕ, ◌++◌, ◌<◌, ◌∙◌, ◌∷◌, ◌≡◌}
 use Rattle.std.specs.List.{AllByRecursion, Contains}
 use Rattle.cluster_core.specs.Flush.{Flushes}
 use Rattle.cluster_core.specs.OneThread.{IsOneThread, IsSent, waiting_in}
@@ -33,6 +33,6 @@ nothing_applied limit opening past now old came told none idle one =
     one.grows ∙ (ap (λ (es : List Entry). past ++ es) (none_sent one.more (subst (λ (sent : List Request). AllByRecursion (IsSent sent) one.more) empty one.asked)) ∙ append-nil past)
 
 -- nor after a flush
-pub idle_flushed : (old new : BookState) (result : Result (Unit {0}) Refusal) → Flushes old new result → waiting_in_all old.core.state.inboxes ≡ 0 → waiting_in_all new.core.state.inboxes ≡ 0
-idle_flushed old new result (inl hindered) idle = ap (λ (b : BookState). waiting_in_all b.core.state.inboxes) hindered.left ∙ idle
+pub idle_flushed : (old new : KeptState) (result : Result (Unit {0}) Refusal) → Flushes old new result → waiting_in_all old.core.state.inboxes ≡ 0 → waiting_in_all new.core.state.inboxes ≡ 0
+idle_flushed old new result (inl hindered) idle = ap (λ (b : KeptState). waiting_in_all b.core.state.inboxes) hindered.left ∙ idle
 idle_flushed old new result (inr tried) idle = ap (λ (s : State). waiting_in_all s.inboxes) tried.kept.core.left ∙ idle

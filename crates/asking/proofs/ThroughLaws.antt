@@ -299,8 +299,8 @@ thread_on old mid new request result history opening limit one =
     (subst (λ (t : Tree). IsOneThread old.core.state.tree.limit t mid.history new.history (request ∷ []) (receipt_in result)) opening
     (subst (λ (n : ℕ). IsOneThread n mid.opening mid.history new.history (request ∷ []) (receipt_in result)) limit one))
 
-pub order_on : (old mid new : BookState) (result : Result Receipt Refusal) → mid.history ≡ old.history → InOrder (length mid.history) (receipt_in result) (length new.history) → InOrder (length old.history) (receipt_in result) (length new.history)
-order_on old mid new result history order = subst (λ (h : List Entry). InOrder (length h) (receipt_in result) (length new.history)) history order
+pub order_on : (old mid new : ℕ) (result : Result Receipt Refusal) → mid ≡ old → InOrder mid (receipt_in result) new → InOrder old (receipt_in result) new
+order_on old mid new result same order = subst (λ (n : ℕ). InOrder n (receipt_in result) new) same order
 
 -- a refusal that isn't told of a frozen export
 pub last_not : (old new : BookState) (rank : Rank) (request : Request) (result : Result Receipt Refusal) → NoneFreezing old.core.state.exports → AsksOnce old.core new.core old.history new.history rank request result → result ≢ Err Frozen

@@ -1,5 +1,5 @@
 -- What ranks did that served and granted alone.
-use Rattle.asking.proofs.Common.{Answer, Arrive, BookState, Entry, Event, Grant, IsBroughtBy, IsSoundBook, IsStepFor, LeadsTo, List, Option, Rank, Receipt, Refusal, Request, Result, Serve, Steps, Tree, UsesStep, [], ap, append-nil, length, receipt_in, refl, subst, sym, ℕ, ◌++◌, ◌∙◌, ◌∷◌, ◌≡◌}
+use Rattle.asking.proofs.Common.{Answer, Arrive, Bool, BookState, MatchBool, false, true, Entry, Event, Grant, IsBroughtBy, IsSoundBook, IsStepFor, LeadsTo, List, Option, Rank, Receipt, Refusal, Request, Result, Serve, Steps, Tree, UsesStep, [], ap, append-nil, length, receipt_in, refl, subst, sym, ℕ, ◌++◌, ◌+◌, ◌∙◌, ◌∷◌, ◌≡◌}
 use Rattle.std.specs.List.{AllByRecursion}
 use Rattle.std.proofs.lemmas.List.Concat.{flat_map-append}
 use Rattle.std.proofs.lemmas.List.Elements.{Contains-append_left}
@@ -92,9 +92,15 @@ held_as_one old new replies request sound served =
     subst (λ (rs : List Receipt). IsOneThread old.core.state.tree.limit old.opening old.history new.history (waiting ++ request ∷ []) rs) (sym (append-nil replies))
     (more_sent old.core.state.tree.limit old.opening old.history new.history waiting (request ∷ []) replies (waiting_as_one old new replies sound served).one)
 
-pub held_in_order : (old new : BookState) (replies : List Receipt) → IsSoundBook new → ServesWaiting old new replies → InOrder (length old.history) (replies ++ []) (length new.history)
-held_in_order old new replies sound served =
-    subst (λ (rs : List Receipt). InOrder (length old.history) rs (length new.history)) (sym (append-nil replies)) (waiting_as_one old new replies sound served).in_order
+-- receipts in their order, and others behind them
+by_first : (b : Bool) (A B C D : Type 0) → (A → C) → (B → D) → MatchBool b A B → MatchBool b C D
+by_first true A B C D newly again h = newly h
+by_first false A B C D newly again h = again h
+
+pub order_then : (first mid end : ℕ) (rs ss : List Receipt) → InOrder first rs mid → InOrder mid ss end → InOrder first (rs ++ ss) end
+order_then first mid end [] ss one other = subst (λ (n : ℕ). InOrder n ss end) one other
+order_then first mid end (r ∷ rs) ss one other =
+    by_first r.first _ _ _ _ (λ h. (h.0, order_then (first + 1) mid end rs ss h.1 other)) (λ h. (h.0, order_then first mid end rs ss h.1 other)) one
 
 -- those that waited were served, and then one was asked
 pub among_as_one : (old mid new : BookState) (replies : List Receipt) (request : Request) (most : ℕ) (result : Result Receipt Refusal) → IsSoundBook new → ServesWaiting old mid replies → IsBroughtBy request most result mid new

@@ -13,8 +13,8 @@ use Rattle.namespace_ops.specs.Served.{LacksNumber}
 use Rattle.mdcache.specs.Frags.{LacksFor}
 use Rattle.cluster_core.specs.Master.{IsMaster}
 use Rattle.cluster_core.specs.Serve.{IsApplied, IsRepeated, IsTakenOut, outcome_of}
-use Rattle.cluster_core.specs.Sound.{IsSound}
-use Rattle.cluster_core.specs.State.{BookState, Core, State, supply_of}
+use Rattle.cluster_core.specs.Sound.{StandsBehind, IsSound}
+use Rattle.cluster_core.specs.State.{BookState, Core, KeptState, State, supply_of, whole_of}
 use Rattle.asking.specs.GrantsAll.{KeepsButGrants, WhyNotGranted}
 use Rattle.asking.specs.Serves.{KeepsUnclean, told_as}
 use Rattle.cluster_core.specs.declared.receipts.Receipt.{Receipt}
@@ -109,6 +109,12 @@ pub record HasCome (q : Question) (book : BookState) (rank : Rank) (client tid :
   pub tid_is : tid ≡ q.request.tid
   -- if the rank is the master of those that it serves, it is that of the rank where the request was asked
   pub via : IsMaster q.core.state rank q.request.op rank → IsMaster q.core.state q.rank q.request.op rank
+
+-- it has come to a rank of a book that keeps the end of its history alone, behind the entries that are forgotten
+pub record HasComeBehind (q : Question) (past : List Entry) (book : KeptState) (rank : Rank)
+    (client tid : ℕ) : Type 0 where
+  pub behind : StandsBehind q.opening past book
+  pub come : HasCome q (whole_of q.opening past book) rank client tid
 
 -- it is new, and this is its master
 pub record IsNewAtMaster (q : Question) (rank : Rank) : Type 0 where

@@ -8,7 +8,7 @@ use Rattle.mds_types.specs.declared.requests.Request.{Request}
 use Rattle.mds_types.specs.History.{IsTrimmed}
 use Rattle.cluster_core.specs.Serve.{without_request}
 use Rattle.cluster_core.specs.GivenUp.{GivesUp}
-use Rattle.cluster_core.specs.State.{BookState, Core, State}
+use Rattle.cluster_core.specs.State.{Core, KeptState, State}
 use Rattle.asking.specs.Ask.{AsksAlone, LacksNumberToServe, NoneWaits, WhyItWaits}
 use Rattle.asking.specs.Drain.{IsLowest}
 use Rattle.asking.specs.declared.drains.Waiter.{Waiter}
@@ -35,7 +35,7 @@ AsksOnce old new past now rank request (Err reason) =
 -- ---- words of this crate's own contracts
 
 -- the front of the lowest rank where something waits was given up; where none waits nothing happened
-abbrev pub Leaves : (old new : BookState) → Type 0
+abbrev pub Leaves : (old new : KeptState) → Type 0
 Leaves old new =
     (NoneWaits old.core.state.inboxes × (new ≡ old))
     ⊎ ((found : Waiter) × IsLowest old.core.state.inboxes found × GivesUp old new found.rank)

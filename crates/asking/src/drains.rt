@@ -1,9 +1,12 @@
 //! Draining: all that waits is answered.
-ghost use Rattle.std.specs.Prelude.{◌≡◌, ◌≢◌, ◌⊎◌, ◌-◌, ◌<◌, ◌≤◌, ◌++◌, [], true, cond, length, vec_capacity, vec_len, List, Ok, Err, IfErr, MatchBool, MatchOption, MatchResult, OnOk};
+ghost use Rattle.std.specs.Prelude.{◌≡◌, ◌≢◌, ◌⊎◌, ◌-◌, ◌<◌, ◌≤◌, ◌++◌, [], true, cond, vec_capacity, vec_len, List, Ok, Err, IfErr, MatchBool, MatchOption, MatchResult, OnOk};
 ghost use Rattle.std.specs.FinMap as map;
+ghost use Rattle.mds_types.specs.Tree.{Tree};
+ghost use Rattle.mds_types.specs.declared.entries.Entry.{Entry as Applied};
 ghost use Rattle.cluster_core.specs.OneThread.{InOrder, IsOneThread, receipt_of, waiting_in};
 ghost use Rattle.cluster_core.specs.Runs.{GoesOnFrom};
-ghost use Rattle.cluster_core.specs.Sound.{IsSoundBook};
+ghost use Rattle.cluster_core.specs.Sound.{StandsBehind, IsSoundKept};
+ghost use Rattle.cluster_core.specs.State.{places_of, whole_of};
 ghost use Rattle.asking.specs.Ask.{NoneWaits};
 ghost use Rattle.asking.specs.Drain.{IsLowest, IsStopped, OneLessStrays, OneLessWaits, RoundEnds, forwards, waiting_in_all};
 ghost use Rattle.asking.specs.Reached.{ServesWaiting};
@@ -42,10 +45,12 @@ pub struct Drained {
 /// would change a frozen fragment, and so never `Frozen` where no export stands. Those that were answered before it are.
 pub fn drain<S: Store + Drop>(alloc: Global, book: &mut Book<S>) -> Drained
     requires { waiting_in_all book.old.core.state.inboxes ≤ 1024 }
-    ensures served { ServesWaiting book.old book.new result.receipts.items }
-    ensures one_thread { IsOneThread book.old.core.state.tree.limit book.old.opening book.old.history book.new.history
+    ensures served { (opening : Tree) (past : List Applied) → StandsBehind opening past book.old
+        → ServesWaiting (whole_of opening past book.old) (whole_of opening past book.new) result.receipts.items }
+    ensures one_thread { (opening : Tree) (past : List Applied) → StandsBehind opening past book.old
+        → IsOneThread book.old.core.state.tree.limit opening (past ++ book.old.history) (past ++ book.new.history)
         (waiting_in book.old.core.state.inboxes) result.receipts.items }
-    ensures in_order { InOrder (length book.old.history) result.receipts.items (length book.new.history) }
+    ensures in_order { InOrder (places_of book.old) result.receipts.items (places_of book.new) }
     ensures drained { OnOk result.ended (NoneWaits book.new.core.state.inboxes) }
     ensures stopped { IfErr result.ended (IsStopped book.new.core) }
     ensures thawed { book.old.core.state.exports ≡ map.empty → result.ended ≢ Err Refusal.Frozen }
@@ -53,8 +58,11 @@ pub fn drain<S: Store + Drop>(alloc: Global, book: &mut Book<S>) -> Drained
     ensures few { waiting_in_all book.new.core.state.inboxes ≤ 1024 }
     ensures grows { GoesOnFrom book.new.history book.old.history }
     ensures opening { book.new.opening ≡ book.old.opening }
-    ensures sound { IsSoundBook book.new }
+    ensures goes_on { (opening : Tree) (past : List Applied) → StandsBehind opening past book.old
+        → StandsBehind opening past book.new }
+    ensures sound { IsSoundKept book.new }
 {
+    book.is_sound();
     let mut receipts = Vec::new(alloc);
     let ended = answer_all(alloc, book, &mut receipts);
     Drained { receipts, ended }
@@ -68,7 +76,8 @@ fn answer_all<S: Store + Drop>(
 ) -> Result<(), Refusal>
     requires few { waiting_in_all book.old.core.state.inboxes ≤ 1024 }
     requires empty { receipts.old.items ≡ [] }
-    ensures served { ServesWaiting book.old book.new receipts.new.items }
+    ensures served { (opening : Tree) (past : List Applied) → StandsBehind opening past book.old
+        → ServesWaiting (whole_of opening past book.old) (whole_of opening past book.new) receipts.new.items }
     ensures drained { OnOk result (NoneWaits book.new.core.state.inboxes) }
     ensures stopped { IfErr result (IsStopped book.new.core) }
     ensures thawed { book.old.core.state.exports ≡ map.empty → result ≢ Err Refusal.Frozen }
@@ -76,7 +85,9 @@ fn answer_all<S: Store + Drop>(
     ensures few { waiting_in_all book.new.core.state.inboxes ≤ 1024 }
     ensures grows { GoesOnFrom book.new.history book.old.history }
     ensures opening { book.new.opening ≡ book.old.opening }
-    ensures sound { IsSoundBook book.new }
+    ensures goes_on { (opening : Tree) (past : List Applied) → StandsBehind opening past book.old
+        → StandsBehind opening past book.new }
+    ensures sound { IsSoundKept book.new }
 {
     book.is_sound();
     let mut strays = MOST;
@@ -127,12 +138,15 @@ fn play_round<S: Store + Drop>(
     requires few { waiting_in_all book.old.core.state.inboxes ≤ 1024 }
     requires lowest { IsLowest book.old.core.state.inboxes found }
     ensures ends { RoundEnds book.old.core book.new.core result }
-    ensures served { (replies : List Told) × (receipts.new.items ≡ receipts.old.items ++ replies)
-        × ServesWaiting book.old book.new replies }
+    ensures served { (opening : Tree) (past : List Applied) → StandsBehind opening past book.old
+        → (replies : List Told) × (receipts.new.items ≡ receipts.old.items ++ replies)
+        × ServesWaiting (whole_of opening past book.old) (whole_of opening past book.new) replies }
     ensures exports { book.new.core.state.exports ≡ book.old.core.state.exports }
     ensures grows { GoesOnFrom book.new.history book.old.history }
     ensures opening { book.new.opening ≡ book.old.opening }
-    ensures sound { IsSoundBook book.new }
+    ensures goes_on { (opening : Tree) (past : List Applied) → StandsBehind opening past book.old
+        → StandsBehind opening past book.new }
+    ensures sound { IsSoundKept book.new }
 {
     book.is_sound();
     // room for the reply comes first: once it is told it can't be lost

@@ -1,10 +1,13 @@
 //! Ending an export that froze its region, by its own next steps.
 ghost use Rattle.std.specs.Prelude.{◌≡◌, ◌<◌, ℕ, List, Some, OnOk};
 ghost use Rattle.std.specs.FinMap as map;
+ghost use Rattle.mds_types.specs.Tree.{Tree};
+ghost use Rattle.mds_types.specs.declared.entries.Entry.{Entry as Applied};
 ghost use Rattle.export_steps.specs.declared.exports.ExportState.TheVariants as at;
 ghost use Rattle.export_steps.specs.Standing.{state_at};
 ghost use Rattle.cluster_core.specs.Exporting.{IsUnsent};
-ghost use Rattle.cluster_core.specs.Sound.{IsSoundBook};
+ghost use Rattle.cluster_core.specs.Sound.{StandsBehind, IsSoundKept};
+ghost use Rattle.cluster_core.specs.State.{whole_of};
 ghost use Rattle.cluster_core.specs.declared.events.Answer.TheVariants.{Sent};
 ghost use Rattle.asking.specs.Ending.{CancelsOr, EndsExport, EndsFrozen, HasEnded, TriesToSend};
 
@@ -29,9 +32,13 @@ pub fn end_export<S: Store + Drop>(
     frag: Frag,
     cancel: bool,
 ) -> Result<(), Refusal>
-    ensures ends { EndsExport cancel (ino, frag) book.old book.new kept.old kept.new result }
+    ensures ends { (opening : Tree) (past : List Applied) → StandsBehind opening past book.old
+        → EndsExport cancel (ino, frag) (whole_of opening past book.old) (whole_of opening past book.new) kept.old
+        kept.new result }
     ensures opening { book.new.opening ≡ book.old.opening }
-    ensures sound { IsSoundBook book.new }
+    ensures goes_on { (opening : Tree) (past : List Applied) → StandsBehind opening past book.old
+        → StandsBehind opening past book.new }
+    ensures sound { IsSoundKept book.new }
 {
     book.is_sound();
     match state_of(book, ino, frag) {
@@ -67,10 +74,15 @@ fn end_frozen<S: Store + Drop>(
     cancel: bool,
 ) -> Result<(), Refusal>
     requires { state_at book.old.core.state.exports (ino, frag) ≡ Some at.Frozen }
-    ensures ends { EndsFrozen cancel (ino, frag) 4 book.old book.new kept.old kept.new result }
+    ensures ends { (opening : Tree) (past : List Applied) → StandsBehind opening past book.old
+        → EndsFrozen cancel (ino, frag) 4 (whole_of opening past book.old) (whole_of opening past book.new) kept.old
+        kept.new result }
     ensures opening { book.new.opening ≡ book.old.opening }
-    ensures sound { IsSoundBook book.new }
+    ensures goes_on { (opening : Tree) (past : List Applied) → StandsBehind opening past book.old
+        → StandsBehind opening past book.new }
+    ensures sound { IsSoundKept book.new }
 {
+    book.is_sound();
     match book.step(alloc, Event::Prep { ino, frag }) {
         Ok(answer) => {
             drop(answer);
@@ -90,10 +102,15 @@ fn end_prepared<S: Store + Drop>(
     cancel: bool,
 ) -> Result<(), Refusal>
     requires { state_at book.old.core.state.exports (ino, frag) ≡ Some at.Prepared }
-    ensures ends { EndsFrozen cancel (ino, frag) 3 book.old book.new kept.old kept.new result }
+    ensures ends { (opening : Tree) (past : List Applied) → StandsBehind opening past book.old
+        → EndsFrozen cancel (ino, frag) 3 (whole_of opening past book.old) (whole_of opening past book.new) kept.old
+        kept.new result }
     ensures opening { book.new.opening ≡ book.old.opening }
-    ensures sound { IsSoundBook book.new }
+    ensures goes_on { (opening : Tree) (past : List Applied) → StandsBehind opening past book.old
+        → StandsBehind opening past book.new }
+    ensures sound { IsSoundKept book.new }
 {
+    book.is_sound();
     match send(alloc, book, kept, ino, frag) {
         Ok(answer) => {
             keep_sent(kept, ino, frag, answer);
@@ -111,11 +128,14 @@ fn send<S: Store + Drop>(
     ino: Ino,
     frag: Frag,
 ) -> Result<Answer, Refusal>
-    ensures sends { TriesToSend (ino, frag) book.old book.new result }
+    ensures sends { (opening : Tree) (past : List Applied) → StandsBehind opening past book.old
+        → TriesToSend (ino, frag) (whole_of opening past book.old) (whole_of opening past book.new) result }
     ensures room { OnOk result (0 < kept.new.room) }
     ensures bytes { kept.new.bytes ≡ kept.old.bytes }
     ensures opening { book.new.opening ≡ book.old.opening }
-    ensures sound { IsSoundBook book.new }
+    ensures goes_on { (opening : Tree) (past : List Applied) → StandsBehind opening past book.old
+        → StandsBehind opening past book.new }
+    ensures sound { IsSoundKept book.new }
 {
     book.is_sound();
     match kept.reserve() {
@@ -150,9 +170,13 @@ fn end_sent<S: Store + Drop>(
     cancel: bool,
 ) -> Result<(), Refusal>
     requires { state_at book.old.core.state.exports (ino, frag) ≡ Some at.Sent }
-    ensures ends { EndsFrozen cancel (ino, frag) 2 book.old book.new kept.old kept.new result }
+    ensures ends { (opening : Tree) (past : List Applied) → StandsBehind opening past book.old
+        → EndsFrozen cancel (ino, frag) 2 (whole_of opening past book.old) (whole_of opening past book.new) kept.old
+        kept.new result }
     ensures opening { book.new.opening ≡ book.old.opening }
-    ensures sound { IsSoundBook book.new }
+    ensures goes_on { (opening : Tree) (past : List Applied) → StandsBehind opening past book.old
+        → StandsBehind opening past book.new }
+    ensures sound { IsSoundKept book.new }
 {
     book.is_sound();
     let Ok(bytes) = kept.copy_of(ino, frag) else {
@@ -178,9 +202,13 @@ fn finish<S: Store + Drop>(
     cancel: bool,
 )
     requires { state_at book.old.core.state.exports (ino, frag) ≡ Some at.Imported }
-    ensures ends { HasEnded cancel (ino, frag) 1 book.old book.new kept.old kept.new }
+    ensures ends { (opening : Tree) (past : List Applied) → StandsBehind opening past book.old
+        → HasEnded cancel (ino, frag) 1 (whole_of opening past book.old) (whole_of opening past book.new) kept.old
+        kept.new }
     ensures opening { book.new.opening ≡ book.old.opening }
-    ensures sound { IsSoundBook book.new }
+    ensures goes_on { (opening : Tree) (past : List Applied) → StandsBehind opening past book.old
+        → StandsBehind opening past book.new }
+    ensures sound { IsSoundKept book.new }
 {
     book.is_sound();
     kept.forget(ino, frag);
@@ -200,9 +228,12 @@ fn unless_cancelled<S: Store + Drop>(
     refusal: Refusal,
 ) -> Result<(), Refusal>
     requires { IsUnsent book.old.core.state (ino, frag) }
-    ensures cancels { CancelsOr cancel (ino, frag) book.old book.new refusal result }
+    ensures cancels { (opening : Tree) (past : List Applied) → StandsBehind opening past book.old
+        → CancelsOr cancel (ino, frag) (whole_of opening past book.old) (whole_of opening past book.new) refusal result }
     ensures opening { book.new.opening ≡ book.old.opening }
-    ensures sound { IsSoundBook book.new }
+    ensures goes_on { (opening : Tree) (past : List Applied) → StandsBehind opening past book.old
+        → StandsBehind opening past book.new }
+    ensures sound { IsSoundKept book.new }
 {
     book.is_sound();
     if !cancel {

@@ -1,4 +1,6 @@
-//! One call, one answer: a request is brought to its answer by steps of a book alone, whatever rank holds what.
+//! One call, one answer: a request is brought to its answer by steps of a book alone, whatever rank holds what. Where a
+//! contract speaks of a history, it is the whole one: the entries that the book has forgotten, whichever these are, and
+//! behind them those that it keeps.
 #![tactic(auto)]
 
 mod asks;

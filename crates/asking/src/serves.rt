@@ -1,10 +1,13 @@
 //! Serving the request at the front of a rank's inbox.
-ghost use Rattle.std.specs.Prelude.{◌≡◌, ◌+◌, ◌∷◌, [], ℕ, List, Ok, Err};
+ghost use Rattle.std.specs.Prelude.{◌≡◌, ◌+◌, ◌++◌, ◌∷◌, [], ℕ, List, Ok, Err};
 ghost use Rattle.std.specs.Result.{result_err};
 ghost use Rattle.objstore.specs.Objects.{faults_told};
+ghost use Rattle.mds_types.specs.Tree.{Tree};
+ghost use Rattle.mds_types.specs.declared.entries.Entry.{Entry as Applied};
 ghost use Rattle.mds_types.specs.declared.requests.Request.{Request as Asked};
 ghost use Rattle.inboxes.specs.Inboxes.{waiting_at};
-ghost use Rattle.cluster_core.specs.Sound.{IsSoundBook};
+ghost use Rattle.cluster_core.specs.Sound.{StandsBehind, IsSoundKept};
+ghost use Rattle.cluster_core.specs.State.{whole_of};
 ghost use Rattle.asking.specs.Reached.{LeadsTo};
 ghost use Rattle.asking.specs.Serves.{StandsFor, IsOfServe, ServesTo, SomeWaits, receipts_in, told_of};
 
@@ -32,15 +35,22 @@ pub(crate) fn serve<S: Store + Drop>(
     rank: Rank,
 ) -> Result<Served, Refusal>
     requires { SomeWaits book.old.core.state.inboxes rank }
-    ensures served { (request : Asked) (rest : List Asked) → waiting_at book.old.core.state.inboxes rank ≡ request ∷ rest
-        → ServesTo book.old.core book.new.core book.old.history book.new.history rank request rest result }
-    ensures stands { StandsFor book.new.history result }
-    ensures reached { (client tid : ℕ)
-        → LeadsTo client tid [] 1 (receipts_in result) (result_err result) book.old book.new }
+    ensures served { (opening : Tree) (past : List Applied) → StandsBehind opening past book.old
+        → (request : Asked) (rest : List Asked) → waiting_at book.old.core.state.inboxes rank ≡ request ∷ rest
+        → ServesTo book.old.core book.new.core (past ++ book.old.history) (past ++ book.new.history) rank request rest
+        result }
+    ensures stands { (opening : Tree) (past : List Applied) → StandsBehind opening past book.old
+        → StandsFor (past ++ book.new.history) result }
+    ensures reached { (opening : Tree) (past : List Applied) → StandsBehind opening past book.old → (client tid : ℕ)
+        → LeadsTo client tid [] 1 (receipts_in result) (result_err result)
+        (whole_of opening past book.old) (whole_of opening past book.new) }
     ensures opening { book.new.opening ≡ book.old.opening }
-    ensures sound { IsSoundBook book.new }
+    ensures goes_on { (opening : Tree) (past : List Applied) → StandsBehind opening past book.old
+        → StandsBehind opening past book.new }
+    ensures sound { IsSoundKept book.new }
     ensures counted { book.new.core.faults ≡ book.old.core.faults + faults_told (result_err result) }
 {
+    book.is_sound();
     match book.step(alloc, Event::Serve { rank }) {
         Ok(answer) => Ok(served_by(answer)),
         Err(refusal) => Err(refusal),

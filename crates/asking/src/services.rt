@@ -1,10 +1,14 @@
 //! A book to ask, and nothing else: whatever was asked, nothing is left waiting.
-ghost use Rattle.std.specs.Prelude.{◌≡◌, ◌≢◌, ◌∷◌, [], length, Err, IfErr, IfOk, MatchResult, OnOk};
+ghost use Rattle.std.specs.Prelude.{◌≡◌, ◌≢◌, ◌<◌, ◌≤◌, ◌-◌, ◌++◌, ◌∷◌, [], List, None, length, drop, take, Err, IfErr, IfOk, MatchResult, OnOk};
+ghost use Rattle.std.specs.List.{slice_index_or};
 ghost use Rattle.std.specs.FinMap as map;
-ghost use Rattle.mds_types.specs.History.{after};
+ghost use Rattle.mds_types.specs.Tree.{Tree};
+ghost use Rattle.mds_types.specs.declared.entries.Entry.{Entry as Applied};
+ghost use Rattle.sessions.specs.Aside.{StopsForgetting, forget_all};
 ghost use Rattle.cluster_core.specs.Flush.{Flushes, IsColdTree};
 ghost use Rattle.cluster_core.specs.OneThread.{InOrder, IsOneThread, StandsInHistory, arrival};
-ghost use Rattle.cluster_core.specs.Sound.{IsSoundBook};
+ghost use Rattle.cluster_core.specs.Sound.{StandsBehind, IsSoundKept};
+ghost use Rattle.cluster_core.specs.State.{places_of, shown, whole_of, with_sessions};
 ghost use Rattle.cluster_core.specs.Steps.{Steps};
 ghost use Rattle.cluster_core.specs.Uses.{UsesStep};
 ghost use Rattle.asking.specs.Ask.{NoneWaits};
@@ -37,17 +41,21 @@ pub fn ask_once<S: Store + Drop>(
     request: Request,
 ) -> Result<Receipt, Refusal>
     requires { NoneWaits book.old.core.state.inboxes }
-    ensures one_thread { IsOneThread book.old.core.state.tree.limit book.old.opening book.old.history book.new.history
+    ensures one_thread { (opening : Tree) (past : List Applied) → StandsBehind opening past book.old
+        → IsOneThread book.old.core.state.tree.limit opening (past ++ book.old.history) (past ++ book.new.history)
         (request ∷ []) (receipt_in result) }
-    ensures in_order { InOrder (length book.old.history) (receipt_in result) (length book.new.history) }
-    ensures asked { AsksOnce book.old.core book.new.core book.old.history book.new.history rank request result }
+    ensures in_order { InOrder (places_of book.old) (receipt_in result) (places_of book.new) }
+    ensures asked { (opening : Tree) (past : List Applied) → StandsBehind opening past book.old
+        → AsksOnce book.old.core book.new.core (past ++ book.old.history) (past ++ book.new.history) rank request result }
     ensures thawed { book.old.core.state.exports ≡ map.empty → result ≢ Err Refusal.Frozen }
     ensures none { NoneWaits book.new.core.state.inboxes }
-    ensures stands { IfOk result
-        (λ receipt. StandsInHistory book.new.history receipt.client receipt.tid receipt.place receipt.reply) }
+    ensures stands { (opening : Tree) (past : List Applied) → StandsBehind opening past book.old → IfOk result
+        (λ receipt. StandsInHistory (past ++ book.new.history) receipt.client receipt.tid receipt.place receipt.reply) }
     ensures limit { book.new.core.state.tree.limit ≡ book.old.core.state.tree.limit }
     ensures opening { book.new.opening ≡ book.old.opening }
-    ensures sound { IsSoundBook book.new }
+    ensures goes_on { (opening : Tree) (past : List Applied) → StandsBehind opening past book.old
+        → StandsBehind opening past book.new }
+    ensures sound { IsSoundKept book.new }
 {
     book.is_sound();
     match ask(alloc, book, rank, request) {
@@ -64,7 +72,9 @@ pub fn ask_once<S: Store + Drop>(
 fn leave<S: Store + Drop>(book: &mut Book<S>)
     ensures left { Leaves book.old book.new }
     ensures opening { book.new.opening ≡ book.old.opening }
-    ensures sound { IsSoundBook book.new }
+    ensures goes_on { (opening : Tree) (past : List Applied) → StandsBehind opening past book.old
+        → StandsBehind opening past book.new }
+    ensures sound { IsSoundKept book.new }
 {
     book.is_sound();
     if let Some(found) = lowest(book) {
@@ -72,7 +82,9 @@ fn leave<S: Store + Drop>(book: &mut Book<S>)
     }
 }
 
-/// A book that is asked, in which nothing waits between two requests: so that each may be.
+/// A book that is asked, in which nothing waits between two requests: so that each may be. A service forgets nothing by
+/// itself: it keeps an entry for each change that was ever asked of it. Who asks for long calls `drop_opening` once, where
+/// nobody reads the opening tree, and `forget` between two requests, with the number of entries that are to stay.
 #[derive(Drop)]
 pub struct Service<S: Store + Drop> {
     book: Book<S>,
@@ -105,26 +117,87 @@ impl<S: Store + Drop> Service<S> {
         book
     }
 
+    /// How many entries there ever were, as `Book::places` tells: those that are forgotten, and those of the history.
+    pub fn places(&self) -> usize
+        ensures { result ≡ places_of self.now.book }
+    {
+        self.book.places()
+    }
+
+    /// Forgets the history but for so many of its last entries, as `Book::forget` does: it does nothing before twice as
+    /// many are there, so it may be called after each request, at constant work an entry. No answer to a later request
+    /// tells that entries are forgotten.
+    pub fn forget(&mut self, keep: usize) -> usize
+        ensures few { result ≤ length self.old.book.history - keep }
+        ensures waits { length self.old.book.history - keep < keep → result ≡ 0 }
+        ensures stops { (e : Applied) → keep ≤ length self.old.book.history - keep
+            → result < length self.old.book.history - keep
+            → StopsForgetting self.new.book.core.state.sessions (slice_index_or self.old.book.history result e) }
+        ensures left { self.new.book.history ≡ drop result self.old.book.history }
+        ensures core { self.new.book.core ≡ with_sessions self.old.book.core
+            (forget_all self.old.book.core.state.sessions (take result self.old.book.history)) }
+        ensures nothing { result ≡ 0 → self.new.book ≡ self.old.book }
+        ensures opening { 0 < result → self.new.book.opening ≡ None }
+        ensures goes_on { (opening : Tree) (past : List Applied) → StandsBehind opening past self.old.book
+            → StandsBehind opening (past ++ take result self.old.book.history) self.new.book }
+    {
+        self.book.forget(keep)
+    }
+
+    /// Forgets the beginning of the history of which no reply is kept for a client, as `Book::forget_passed` does. It
+    /// takes no memory, and moves the entries that stay: so it is called now and then, not after each request.
+    pub fn forget_passed(&mut self) -> usize
+        ensures few { result ≤ length self.old.book.history }
+        ensures stops { (e : Applied) → result < length self.old.book.history
+            → StopsForgetting self.new.book.core.state.sessions (slice_index_or self.old.book.history result e) }
+        ensures left { self.new.book.history ≡ drop result self.old.book.history }
+        ensures stays { self.new.book.core.state.sessions.rows ≡ self.old.book.core.state.sessions.rows }
+        ensures core { self.new.book.core ≡ with_sessions self.old.book.core
+            (forget_all self.old.book.core.state.sessions (take result self.old.book.history)) }
+        ensures nothing { result ≡ 0 → self.new.book ≡ self.old.book }
+        ensures opening { 0 < result → self.new.book.opening ≡ None }
+        ensures goes_on { (opening : Tree) (past : List Applied) → StandsBehind opening past self.old.book
+            → StandsBehind opening (past ++ take result self.old.book.history) self.new.book }
+    {
+        self.book.forget_passed()
+    }
+
+    /// The tree that the book opened with is no longer kept, as `Book::drop_opening` says: no request needs it.
+    pub fn drop_opening(&mut self)
+        ensures gone { self.new.book.opening ≡ None }
+        ensures history { self.new.book.history ≡ self.old.book.history }
+        ensures core { self.new.book.core ≡ self.old.book.core }
+        ensures goes_on { (opening : Tree) (past : List Applied) → StandsBehind opening past self.old.book
+            → StandsBehind opening past self.new.book }
+    {
+        self.book.drop_opening();
+    }
+
     /// One step of the book, of an event that brings no request, as an administrator's: what it answers, or why it is
     /// refused.
     pub fn step(&mut self, alloc: Global, event: Event) -> Result<Answer, Refusal>
         requires { arrival event ≡ [] }
-        ensures stepped { Steps self.old.book.core self.new.book.core self.old.book.history self.new.book.history result
-            event }
+        ensures stepped { (opening : Tree) (past : List Applied) → StandsBehind opening past self.old.book
+            → Steps self.old.book.core self.new.book.core (past ++ self.old.book.history)
+            (past ++ self.new.book.history) result event }
         ensures uses { UsesStep self.old.book.core self.new.book.core result event }
         ensures silent { self.new.book.history ≡ self.old.book.history }
         ensures limit { self.new.book.core.state.tree.limit ≡ self.old.book.core.state.tree.limit }
+        ensures goes_on { (opening : Tree) (past : List Applied) → StandsBehind opening past self.old.book
+            → StandsBehind opening past self.new.book }
         ensures opening { self.new.book.opening ≡ self.old.book.opening }
     {
+        self.book.is_sound();
         self.book.step(alloc, event)
     }
 
     /// Writes all that isn't in the store, as `flush` does.
     pub fn flush(&mut self, rt: &(impl Threads + Sync), alloc: Global) -> Result<(), Refusal>
         ensures cold { OnOk result
-            (IsColdTree self.new.book.core.state.tree.objects
-            (after self.old.book.core.state.tree.limit self.old.book.opening self.old.book.history)) }
+            (IsColdTree self.new.book.core.state.tree.objects (shown self.old.book.core.state)) }
         ensures outcome { Flushes self.old.book self.new.book result }
+        ensures goes_on { (opening : Tree) (past : List Applied) → StandsBehind opening past self.old.book
+            → StandsBehind opening past self.new.book }
     {
         flush(rt, alloc, &mut self.book)
     }
@@ -132,15 +205,20 @@ impl<S: Store + Drop> Service<S> {
     /// A request comes in at a rank, and gets its answer, or is refused as `ask_once` is: then nothing of it is left.
     #[inline(always)]
     pub fn ask(&mut self, alloc: Global, rank: Rank, request: Request) -> Result<Receipt, Refusal>
-        ensures one_thread { IsOneThread self.old.book.core.state.tree.limit self.old.book.opening self.old.book.history
-            self.new.book.history (request ∷ []) (receipt_in result) }
-        ensures in_order { InOrder (length self.old.book.history) (receipt_in result) (length self.new.book.history) }
-        ensures asked { AsksOnce self.old.book.core self.new.book.core self.old.book.history self.new.book.history rank
-            request result }
+        ensures one_thread { (opening : Tree) (past : List Applied) → StandsBehind opening past self.old.book
+            → IsOneThread self.old.book.core.state.tree.limit opening (past ++ self.old.book.history)
+            (past ++ self.new.book.history) (request ∷ []) (receipt_in result) }
+        ensures in_order { InOrder (places_of self.old.book) (receipt_in result) (places_of self.new.book) }
+        ensures asked { (opening : Tree) (past : List Applied) → StandsBehind opening past self.old.book
+            → AsksOnce self.old.book.core self.new.book.core (past ++ self.old.book.history)
+            (past ++ self.new.book.history) rank request result }
         ensures thawed { self.old.book.core.state.exports ≡ map.empty → result ≢ Err Refusal.Frozen }
-        ensures stands { IfOk result
-            (λ receipt. StandsInHistory self.new.book.history receipt.client receipt.tid receipt.place receipt.reply) }
+        ensures stands { (opening : Tree) (past : List Applied) → StandsBehind opening past self.old.book → IfOk result
+            (λ receipt. StandsInHistory (past ++ self.new.book.history) receipt.client receipt.tid receipt.place
+            receipt.reply) }
         ensures limit { self.new.book.core.state.tree.limit ≡ self.old.book.core.state.tree.limit }
+        ensures goes_on { (opening : Tree) (past : List Applied) → StandsBehind opening past self.old.book
+            → StandsBehind opening past self.new.book }
         ensures opening { self.new.book.opening ≡ self.old.book.opening }
     {
         ask_once(alloc, &mut self.book, rank, request)
@@ -156,15 +234,21 @@ impl<S: Store + Drop> Service<S> {
         request: Request,
         cancel: bool,
     ) -> Result<Receipt, Refusal>
-        ensures one_thread { IsOneThread self.old.book.core.state.tree.limit self.old.book.opening self.old.book.history
-            self.new.book.history (request ∷ []) (receipt_in result) }
-        ensures in_order { InOrder (length self.old.book.history) (receipt_in result) (length self.new.book.history) }
-        ensures asked { AsksThrough cancel rank request self.old.book self.new.book kept.old kept.new result }
+        ensures one_thread { (opening : Tree) (past : List Applied) → StandsBehind opening past self.old.book
+            → IsOneThread self.old.book.core.state.tree.limit opening (past ++ self.old.book.history)
+            (past ++ self.new.book.history) (request ∷ []) (receipt_in result) }
+        ensures in_order { InOrder (places_of self.old.book) (receipt_in result) (places_of self.new.book) }
+        ensures asked { (opening : Tree) (past : List Applied) → StandsBehind opening past self.old.book
+            → AsksThrough cancel rank request (whole_of opening past self.old.book) (whole_of opening past self.new.book)
+            kept.old kept.new result }
         ensures thawed { HasAllBytes self.old.book.core.state kept.old → result ≡ Err Refusal.Frozen
             → CantSend cancel self.new.book.core.state }
-        ensures stands { IfOk result
-            (λ receipt. StandsInHistory self.new.book.history receipt.client receipt.tid receipt.place receipt.reply) }
+        ensures stands { (opening : Tree) (past : List Applied) → StandsBehind opening past self.old.book → IfOk result
+            (λ receipt. StandsInHistory (past ++ self.new.book.history) receipt.client receipt.tid receipt.place
+            receipt.reply) }
         ensures limit { self.new.book.core.state.tree.limit ≡ self.old.book.core.state.tree.limit }
+        ensures goes_on { (opening : Tree) (past : List Applied) → StandsBehind opening past self.old.book
+            → StandsBehind opening past self.new.book }
         ensures opening { self.new.book.opening ≡ self.old.book.opening }
     {
         ask_through(alloc, &mut self.book, kept, rank, request, cancel)

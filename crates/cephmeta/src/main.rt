@@ -58,6 +58,7 @@ fn run<H: AllocGlobal + Threads + Wait + Sync + Print + Eprint>(
             cache,
             limit,
             asks,
+            history,
             store: None,
             explains,
         } => {
@@ -66,19 +67,26 @@ fn run<H: AllocGlobal + Threads + Wait + Sync + Print + Eprint>(
                 cache: *cache,
                 limit: *limit,
             };
-            script(rt, host.reader(), shape, *asks, *explains)
+            let mode = Mode {
+                asks: *asks,
+                keeps: false,
+                history: *history,
+            };
+            script(rt, host.reader(), shape, mode, *explains)
         }
         Options::Script {
             ranks,
             cache,
             limit,
             asks,
+            history,
             store: Some(path),
             explains,
         } => {
             let mode = Mode {
                 asks: *asks,
                 keeps: true,
+                history: *history,
             };
             let shape = Shape {
                 ranks: *ranks,
@@ -115,7 +123,7 @@ fn script<H: AllocGlobal + Threads + Sync + Print + Eprint, I: Read + Drop>(
     rt: &H,
     input: I,
     shape: Shape,
-    asks: bool,
+    mode: Mode,
     explains: bool,
 ) -> io::Result<ExitCode>
     requires one { 1 ≤ shape.ranks }
@@ -129,7 +137,6 @@ fn script<H: AllocGlobal + Threads + Sync + Print + Eprint, I: Read + Drop>(
         cache,
         limit,
     } = shape;
-    let mode = Mode { asks, keeps: false };
     let ended = if explains {
         run_new(
             rt,
@@ -141,7 +148,7 @@ fn script<H: AllocGlobal + Threads + Sync + Print + Eprint, I: Read + Drop>(
             mode,
             &Aloud::new(rt),
         )
-    } else if asks {
+    } else if mode.asks || mode.history.is_some() {
         run_new(rt, input, writer, ranks, cache, limit, mode, &Untold)
     } else {
         run_script(rt, input, writer, ranks, cache, limit)

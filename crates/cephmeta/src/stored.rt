@@ -1,13 +1,14 @@
 //! A script, or a load, over the tree that a file has. What follows the opening of the file is said of any tables: so
 //! nothing here is proved of the database's own types.
-ghost use Rattle.std.specs.Prelude.{◌≡◌, ◌≤◌, IsTrue};
-ghost use Rattle.std.specs.FinMap as map;
+ghost use Rattle.std.specs.Prelude.{◌≤◌};
 ghost use Rattle.sqlite_trees.specs.View.{IsClean};
 ghost use Rattle.kept_store.specs.Kept.{IsFreshMirror};
 ghost use Rattle.admin_cli.specs.Loads.{IsLoad};
 
-use admin_cli::{Aloud, CACHE, Limit, Load, Mode, Ran, Served, Untold, run_over, serve_over};
-use cluster_core::{Book, PlainTree, mount};
+use admin_cli::{
+    Aloud, CACHE, Limit, Load, Mode, Ran, Served, Untold, opens_empty, run_over, serve_over,
+};
+use cluster_core::{Book, mount};
 use keeping::Unkept;
 use kept_book::{Unsaved, save};
 use kept_store::{Kept, Settle};
@@ -82,7 +83,9 @@ fn script_over<T: Settle + Drop, H: AllocGlobal + Threads + Sync>(
     requires most { shape.cache ≤ 65536 }
 {
     match mounted(host, rt.alloc(), path, tables, shape) {
-        Ok(book) => {
+        Ok(mut book) => {
+            // a second copy of the tree, which a script needs not
+            book.drop_opening();
             let writer = &mut io::writer(host);
             let Ran { book, ended } = if explains {
                 run_over(rt, host.reader(), writer, book, mode, &Aloud::new(host))
@@ -136,16 +139,6 @@ fn load_over<T: Settle + Drop + Send, H: AllocGlobal + Threads + Wait + Sync + E
         }
         Err(told) => told,
     }
-}
-
-// Whether a book opened with the empty tree.
-fn opens_empty<T: Settle + Drop>(alloc: Global, book: &Book<Kept<T>>) -> bool
-    ensures { IsTrue result → book.now.opening ≡ map.empty }
-{
-    let empty = PlainTree::new(alloc);
-    let is_empty = book.opening().eq(&empty);
-    drop(empty);
-    is_empty
 }
 
 // Mounts the tree that tables have, or tells why not. Tables that are refused leave their file without its log, which has

@@ -1,9 +1,10 @@
 //! The tree after the history is brought on disk.
-ghost use Rattle.std.specs.Prelude.{◌≡◌, IfOk, IfSome};
+ghost use Rattle.std.specs.Prelude.{◌≡◌, ◌++◌, List, IfOk, IfSome};
 ghost use Rattle.mds_types.specs.History.{after};
 ghost use Rattle.mds_types.specs.Tree.{Tree};
+ghost use Rattle.mds_types.specs.declared.entries.Entry.{Entry as Applied};
 ghost use Rattle.cold_store.specs.ColdTree.{IsColdTree};
-ghost use Rattle.cluster_core.specs.Sound.{IsSoundBook};
+ghost use Rattle.cluster_core.specs.Sound.{StandsBehind, IsSoundKept};
 ghost use Rattle.sqlite_trees.specs.View.{IsClean};
 ghost use Rattle.kept_book.specs.Saves.{Saves};
 ghost use Rattle.kept_book.specs.Survives.{IsOnDisk, Survives};
@@ -38,11 +39,13 @@ pub fn save<T: Settle + Drop>(
     alloc: Global,
     book: &mut Book<Kept<T>>,
 ) -> Result<Snapshot<Kept<T>>, Unsaved>
-    ensures on_disk { IfOk result (λ s. IsClean (T.Store.view s.value.tables)
-        → IsOnDisk (T.Store.recovers s.value.tables)
-        (after book.old.core.state.tree.limit book.old.opening book.old.history)) }
+    ensures on_disk { (opening : Tree) (past : List Applied) → StandsBehind opening past book.old → IfOk result
+        (λ s. IsClean (T.Store.view s.value.tables) → IsOnDisk (T.Store.recovers s.value.tables)
+        (after book.old.core.state.tree.limit opening (past ++ book.old.history))) }
     ensures saves { Saves book.old book.new result }
-    ensures sound { IsSoundBook book.new }
+    ensures goes_on { (opening : Tree) (past : List Applied) → StandsBehind opening past book.old
+        → StandsBehind opening past book.new }
+    ensures sound { IsSoundKept book.new }
 {
     if let Err(refusal) = flush(rt, alloc, book) {
         return Err(Unsaved::Refused(refusal));

@@ -1,11 +1,12 @@
 -- What the lock keeps of the requests that were sent, step by step, and what the threads keep of those that they bring.
-use Rattle.rank_threads.proofs.Common.{Agree, AllByRecursion, Answer, BookState, Contains, Continues, EachIsSent, Entry, IsAskedFor, IsOneThread, IsSent, List, Receipt, Refusal, Request, Result, Serves, Tree, Turn, [], ap, drop, length, map, plan_arrivals, plans_arrivals, receipt_of, receipts_of, receipts_of_all, rules, subst, sym, take, turn_arrival, waiting_in, ℕ, ◌++◌, ◌∙◌, ◌∷◌, ◌≡◌, ◌≤◌}
+use Rattle.rank_threads.proofs.Common.{Agree, AllByRecursion, Answer, Contains, Continues, EachIsSent, Entry, IsAskedFor, IsOneThread, IsSent, IsSoundKept, KeptState, List, Receipt, Refusal, Request, Result, Serves, StandsBehind, Tree, Turn, [], ap, drop, length, map, places_of, plan_arrivals, plans_arrivals, receipt_of, receipts_of, receipts_of_all, rules, subst, sym, take, turn_arrival, waiting_in, ℕ, ◌++◌, ◌∙◌, ◌∷◌, ◌≡◌, ◌≤◌}
 use Rattle.std.proofs.Math.Logic.{∥∥₁_elim, ∥∥₁_map, ∥∥₁_prop}
-use Rattle.std.proofs.lemmas.List.{drop-append-le, drop_all, map-append, take_all}
+use Rattle.std.proofs.lemmas.List.{append_assoc, drop-append-le, drop_all, map-append, take_all}
 use Rattle.mds_types.specs.History.{IsLegal}
 use Rattle.std.proofs.lemmas.List.Elements.{All-contains, All-from_recursion}
 use Rattle.cluster_core.proofs.ListLaws.{all_append, all_back, all_front, all_weaker, each_left, each_right}
-use Rattle.rank_threads.proofs.StepLaws.{begun_fits}
+use Rattle.cluster_core.proofs.Forgotten.{places_behind}
+use Rattle.rank_threads.proofs.StepLaws.{Grown, begun_fits, grown}
 
 -- whatever is one of these is one of those
 among : (sent all : List Request) → AllByRecursion (Contains sent) all → (x : Request) → Contains all x → Contains sent x
@@ -16,8 +17,8 @@ both a b f = ∥∥₁_elim a ∥∥₁_prop (λ x. ∥∥₁_map b (λ y. f x y
 
 -- ---- a step of the book
 
-module _ (limit : ℕ) (sent : List Request) (begun : List Entry) (old new : BookState) (brings : List Request) (told : List Receipt)
-    (one : IsOneThread old.core.state.tree.limit old.opening old.history new.history (waiting_in old.core.state.inboxes ++ brings) told) where
+module _ (limit : ℕ) (sent : List Request) (begun : List Entry) (old new : KeptState) (brings : List Request) (told : List Receipt) (known : IsSoundKept old)
+    (ones : (opening : Tree) (past : List Entry) → StandsBehind opening past old → IsOneThread old.core.state.tree.limit opening (past ++ old.history) (past ++ new.history) (waiting_in old.core.state.inboxes ++ brings) told) where
   all_sent : Serves limit sent begun old → AllByRecursion (Contains sent) brings → AllByRecursion (Contains sent) (waiting_in old.core.state.inboxes ++ brings)
   all_sent s b = all_append (Contains sent) (waiting_in old.core.state.inboxes) brings s.waits b
 
@@ -25,6 +26,7 @@ module _ (limit : ℕ) (sent : List Request) (begun : List Entry) (old new : Boo
   asked_on : Serves limit sent begun old → AllByRecursion (Contains sent) brings → take (length begun) old.history ≡ begun → AllByRecursion (IsSent sent) (drop (length begun) new.history)
   asked_on s b was =
       let all = waiting_in old.core.state.inboxes ++ brings in
+      let one : Grown old new all = grown old new known old.core.state.tree.limit all told ones in
       let its : AllByRecursion (IsSent sent) one.more = all_weaker (IsSent all) (IsSent sent) (λ e. among sent all (all_sent s b) (record { client = e.client; tid = e.tid; oldest = e.oldest; op = e.op })) one.more one.asked in
       let left : drop (length begun) new.history ≡ drop (length begun) old.history ++ one.more = ap (drop (length begun)) one.grows ∙ drop-append-le (length begun) old.history one.more (begun_fits begun old.history was) in
       subst (AllByRecursion (IsSent sent)) (sym left) (all_append (IsSent sent) (drop (length begun) old.history) one.more s.asked its)
@@ -43,17 +45,20 @@ module _ (limit : ℕ) (sent : List Request) (begun : List Entry) (old new : Boo
 
   -- and what is handed out was asked for
   pub told_asked : ∥ AllByRecursion (Contains sent) brings ∥₁ → ∥ Serves limit sent begun old ∥₁ → ∥ AllByRecursion (IsAskedFor sent) told ∥₁
-  told_asked bring serves = both serves bring (λ s b. all_weaker (IsAskedFor (waiting_in old.core.state.inboxes ++ brings)) (IsAskedFor sent) (asked_of s b) told one.asked_for)
+  told_asked bring serves =
+      let one = ones known.0 known.1 known.2 in
+      both serves bring (λ s b. all_weaker (IsAskedFor (waiting_in old.core.state.inboxes ++ brings)) (IsAskedFor sent) (asked_of s b) told one.asked_for)
 
 -- the history that was handed in
-pub begins_first : (begun history : List Entry) → begun ≡ history → take (length begun) history ≡ begun
-begins_first begun history is = subst (λ (es : List Entry). take (length begun) es ≡ begun) is (take_all (length begun) begun (let e : length begun ≤ length begun = search rules in e))
+pub begins_first : (first book : KeptState) → first ≡ book → take (length first.history) book.history ≡ first.history
+begins_first first book is =
+    subst (λ (b : KeptState). take (length first.history) b.history ≡ first.history) is (take_all (length first.history) first.history (let e : length first.history ≤ length first.history = search rules in e))
 
 -- the book that was handed in
-pub serves_first : (limit : ℕ) (sent : List Request) (begun : List Entry) (book : BookState) (brings : List Request) → limit ≡ book.core.state.tree.limit → begun ≡ book.history → sent ≡ waiting_in book.core.state.inboxes ++ brings → ∥ Serves limit sent begun book ∥₁
-serves_first limit sent begun book brings is_limit is_begun is_sent = ∣ record {
-  limited = sym is_limit;
-  asked = subst (AllByRecursion (IsSent sent)) (sym (drop_all (length begun) book.history (subst (λ (es : List Entry). length book.history ≤ length es) (sym is_begun) (let e : length book.history ≤ length book.history = search rules in e)))) tt;
+pub serves_first : (sent : List Request) (first book : KeptState) (brings : List Request) → first ≡ book → sent ≡ waiting_in book.core.state.inboxes ++ brings → ∥ Serves first.core.state.tree.limit sent first.history book ∥₁
+serves_first sent first book brings is is_sent = ∣ record {
+  limited = ap (λ (b : KeptState). b.core.state.tree.limit) (sym is);
+  asked = subst (AllByRecursion (IsSent sent)) (sym (drop_all (length first.history) book.history (subst (λ (b : KeptState). length book.history ≤ length b.history) (sym is) (let e : length book.history ≤ length book.history = search rules in e)))) tt;
   waits = subst (λ (all : List Request). AllByRecursion (Contains all) (waiting_in book.core.state.inboxes)) (sym is_sent) (each_left (waiting_in book.core.state.inboxes) brings);
 } ∣₁
 
@@ -97,18 +102,18 @@ each_brings sent waits plans is = each_of sent plans (subst (λ (all : List Requ
 -- ---- the end of a run
 
 -- a book that goes on from what was handed in, of whose requests it serves, is that of one thread
-pub one_of : (limit : ℕ) (opening : Tree) (sent : List Request) (begun : List Entry) (book : BookState) (told : List Receipt) → Continues opening begun book → Serves limit sent begun book → AllByRecursion (IsAskedFor sent) told → Agree book.history (length begun) told
-    → IsOneThread limit opening begun book.history sent told
-one_of limit opening sent begun book told goes serves asked agree =
+pub one_of : (first book : KeptState) (sent : List Request) (told : List Receipt) → Continues first book → Serves first.core.state.tree.limit sent first.history book → AllByRecursion (IsAskedFor sent) told
+    → ((opening : Tree) (past : List Entry) → StandsBehind opening past first → Agree (past ++ book.history) (places_of first) told)
+    → (opening : Tree) (past : List Entry) → StandsBehind opening past first → IsOneThread first.core.state.tree.limit opening (past ++ first.history) (past ++ book.history) sent told
+one_of first book sent told goes serves asked agree opening past given =
+    let begun = first.history in
     let more = goes.begins.0 in
     let left : drop (length begun) book.history ≡ more = ap (drop (length begun)) goes.begins.1 ∙ drop-append-le (length begun) begun more (search rules) ∙ ap (λ (es : List Entry). es ++ more) (drop_all (length begun) begun (search rules)) in
     record {
       more = more;
-      grows = goes.begins.1;
-      legal =
-          subst (λ (n : ℕ). IsLegal n opening book.history) serves.limited
-          (subst (λ (t : Tree). IsLegal book.core.state.tree.limit t book.history) goes.same_opening goes.sound.legal);
+      grows = ap (λ (es : List Entry). past ++ es) goes.begins.1 ∙ sym (append_assoc past begun more);
+      legal = subst (λ (n : ℕ). IsLegal n opening (past ++ book.history)) serves.limited (goes.goes_on opening past given).behind.sound.legal;
       asked = subst (AllByRecursion (IsSent sent)) left serves.asked;
       asked_for = asked;
-      agree = agree;
+      agree = subst (λ (n : ℕ). Agree (past ++ book.history) n told) (sym (places_behind opening past first given)) (agree opening past given);
     }

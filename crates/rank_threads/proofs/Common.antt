@@ -1,7 +1,7 @@
 -- Names of other crates, and of this one's definitions, as the proofs of this crate take them.
-pub use Rattle.cluster_core.specs.OneThread.{Agree, IsAskedFor, IsOneThread, IsSent, NoneTwice, Stand, arrival, first_places, receipt_of, receipts_of, waiting_in}
-pub use Rattle.cluster_core.specs.Sound.{IsSoundBook}
-pub use Rattle.cluster_core.specs.State.{BookState}
+pub use Rattle.cluster_core.specs.OneThread.{Agree, IsAskedFor, IsHeld, IsOneThread, IsSent, NoneTwice, Stand, StandsInHistory, arrival, first_places, receipt_of, receipts_of, waiting_in}
+pub use Rattle.cluster_core.specs.Sound.{IsSoundBook, IsSoundKept, StandsBehind}
+pub use Rattle.cluster_core.specs.State.{BookState, KeptState, places_of, whole_of}
 pub use Rattle.cluster_core.specs.declared.events.Answer.{Answer}
 pub use Rattle.cluster_core.specs.declared.events.Answer.TheVariants.{Deferred, Forwarded, Job, Nothing, Reply, Sent}
 pub use Rattle.cluster_core.specs.declared.events.Event.{Event}
@@ -11,9 +11,9 @@ pub use Rattle.mds_types.specs.Tree.{Tree}
 pub use Rattle.mds_types.specs.declared.entries.Entry.{Entry}
 pub use Rattle.mds_types.specs.declared.refusals.Refusal.{Refusal}
 pub use Rattle.mds_types.specs.declared.requests.Request.{Request}
-pub use Rattle.rank_threads.specs.Continued.{Continues}
+pub use Rattle.rank_threads.specs.Continued.{Continues, StaysBehind}
 pub use Rattle.rank_threads.specs.Sent.{EachIsSent, Serves, plan_arrivals, plans_arrivals, turn_arrival}
-pub use Rattle.rank_threads.specs.Standing.{Fits, marked}
+pub use Rattle.rank_threads.specs.Standing.{Fits, IsHeldAmong, IsThere, StandAmong, marked}
 pub use Rattle.rank_threads.specs.Turns.{AreAnswered, FitsTurn, PlansAnswered, first_in, firsts, firsts_of_all, receipts_of_all}
 pub use Rattle.rank_threads.specs.declared.plans.Turn.{Turn}
 pub use Rattle.sorted_map.proofs.Decided.{pair_decides}

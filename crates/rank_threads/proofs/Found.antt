@@ -1,5 +1,5 @@
 -- A fact of which it is only kept that it holds, and which can be decided, is there to be used.
-use Rattle.rank_threads.proofs.Common.{AllByRecursion, BookState, Contains, Entry, IsAskedFor, IsSent, List, Receipt, Request, Serves, [], ap, arith, refl, suc, sym, waiting_in, zero, ℕ, ◌∙◌, ◌∷◌, ◌≡◌}
+use Rattle.rank_threads.proofs.Common.{AllByRecursion, KeptState, Contains, Entry, IsAskedFor, IsSent, List, Receipt, Request, Serves, [], ap, arith, refl, suc, sym, waiting_in, zero, ℕ, ◌∙◌, ◌∷◌, ◌≡◌}
 use Rattle.std.proofs.Common.{drop, inl, inr, length, ◌⊎◌}
 use Rattle.std.proofs.Math.Logic.{∥∥₁_elim, ∥∥₁_map}
 use Rattle.std.proofs.lemmas.Bool.{cases_eq}
@@ -126,7 +126,7 @@ is_asked_for (x ∷ xs) r = asked_more x xs r (asks x r (cases_eq x.client r.cli
 pub kept_asked : (sent : List Request) (told : List Receipt) → ∥ AllByRecursion (IsAskedFor sent) told ∥₁ → AllByRecursion (IsAskedFor sent) told
 kept_asked sent told h = kept (all (IsAskedFor sent) (λ r. is_asked_for sent r) told) h
 
-pub kept_serves : (limit : ℕ) (sent : List Request) (begun : List Entry) (book : BookState) → ∥ Serves limit sent begun book ∥₁ → Serves limit sent begun book
+pub kept_serves : (limit : ℕ) (sent : List Request) (begun : List Entry) (book : KeptState) → ∥ Serves limit sent begun book ∥₁ → Serves limit sent begun book
 kept_serves limit sent begun book h = record {
   limited = kept (cases_eq book.core.state.tree.limit limit) (∥∥₁_map h (λ s. s.limited));
   asked =

@@ -1,5 +1,7 @@
 -- One turn more.
-use Rattle.rank_threads.proofs.Common.{Agree, Answer, AreAnswered, Bool, Entry, FitsTurn, List, PlansAnswered, Receipt, Refusal, Result, Stand, Turn, [], ap, arith, cond, drop, drop_more, false, first_in, first_places, firsts, firsts_of_all, get_or, length, map, map-append, receipt_of, receipts_of, receipts_of_all, refl, true, ℕ, ◌++◌, ◌+◌, ◌<◌, ◌∙◌, ◌∷◌, ◌≡◌}
+use Rattle.rank_threads.proofs.Common.{Agree, Answer, AreAnswered, Bool, Continues, Entry, FitsTurn, KeptState, List, PlansAnswered, Receipt, Refusal, Result, StandAmong, StandsBehind, Tree, Turn, [], ap, arith, cond, drop, drop_more, false, first_in, first_places, firsts, firsts_of_all, get_or, length, map, map-append, places_of, receipt_of, receipts_of, receipts_of_all, refl, subst, sym, true, ℕ, ◌++◌, ◌+◌, ◌<◌, ◌∙◌, ◌∷◌, ◌≡◌}
+use Rattle.cluster_core.proofs.Forgotten.{places_behind}
+use Rattle.rank_threads.proofs.ReceiptLaws.{stand_in_all}
 
 pub answered_more : (turns : List Turn) (results : List (Result Answer Refusal)) (turn : Turn) (result : Result Answer Refusal) → AreAnswered turns results → FitsTurn turn result → AreAnswered (turns ++ turn ∷ []) (results ++ result ∷ [])
 answered_more [] [] turn result h fits = (fits, tt)
@@ -58,6 +60,13 @@ pub told_firsts_all : (answers : List (List (Result Answer Refusal))) → length
 told_firsts_all [] = refl
 told_firsts_all (results ∷ answers) = first_places-append (receipts_of results) (receipts_of_all answers) ∙ sums (length (first_places (receipts_of results))) (firsts results) (length (first_places (receipts_of_all answers))) (firsts_of_all answers) (told_firsts results) (told_firsts_all answers)
 
--- receipts that stand agree, where their count is that of the entries that came
-pub agree_of : (old now : List Entry) (receipts : List Receipt) (answers : List (List (Result Answer Refusal))) → receipts ≡ receipts_of_all answers → length now ≡ length old + firsts_of_all answers → Stand now (length old) receipts → Agree now (length old) receipts
-agree_of old now receipts answers told counted stand = record { stand = stand; as_many = let n = ap (λ rs. length (first_places rs)) told ∙ told_firsts_all answers in omega (arith, n, counted) }
+-- receipts that stand among the entries that aren't forgotten agree with all, where their count is that of the entries that came
+pub agree_of : (first book : KeptState) (from : ℕ) (receipts : List Receipt) (answers : List (List (Result Answer Refusal))) → Continues first book → from ≡ places_of first → receipts ≡ receipts_of_all answers → places_of book ≡ places_of first + firsts_of_all answers
+    → StandAmong book.core.state.sessions.forgotten book.history from receipts → (opening : Tree) (past : List Entry) → StandsBehind opening past first → Agree (past ++ book.history) (places_of first) receipts
+agree_of first book from receipts answers goes is_from told counted stand opening past given =
+    let on = goes.goes_on opening past given in
+    let among : StandAmong (length past) book.history (places_of first) receipts = subst (λ n. StandAmong n book.history (places_of first) receipts) (sym on.behind.aside.before) (subst (λ n. StandAmong book.core.state.sessions.forgotten book.history n receipts) is_from stand) in
+    record {
+      stand = (stand_in_all past book.history (places_of first) receipts among).0;
+      as_many = let n = ap (λ rs. length (first_places rs)) told ∙ told_firsts_all answers in omega (arith, n, counted, places_behind opening past book on);
+    }

@@ -3,11 +3,19 @@ use Rattle.std.specs.Prelude.{◌≡◌, List}
 use Rattle.mds_types.specs.declared.entries.Entry.{Entry}
 use Rattle.mds_types.specs.Tree.{Tree}
 use Rattle.cluster_core.specs.Runs.{GoesOnFrom}
-use Rattle.cluster_core.specs.Sound.{IsSoundBook}
-use Rattle.cluster_core.specs.State.{BookState}
+use Rattle.cluster_core.specs.Sound.{StandsBehind, IsSoundKept}
+use Rattle.cluster_core.specs.State.{KeptState}
 
--- a sound book that opened with this tree, and whose history begins with this one
-pub record Continues (opening : Tree) (history : List Entry) (book : BookState) : Type 0 where
-  pub sound : IsSoundBook book
-  pub same_opening : book.opening ≡ opening
-  pub begins : GoesOnFrom book.history history
+-- each opening tree and past that the one book goes on from, the other goes on from too
+abbrev pub StaysBehind : (old new : KeptState) → Type 0
+StaysBehind old new =
+    (opening : Tree) (past : List Entry) → StandsBehind opening past old → StandsBehind opening past new
+
+-- a sound book that goes on from each opening tree and past that the other one went on from, and whose history begins
+-- with that one's; no entry was forgotten in between
+pub record Continues (old new : KeptState) : Type 0 where
+  pub sound : IsSoundKept new
+  pub goes_on : StaysBehind old new
+  pub same_opening : new.opening ≡ old.opening
+  pub same_past : new.core.state.sessions.forgotten ≡ old.core.state.sessions.forgotten
+  pub begins : GoesOnFrom new.history old.history

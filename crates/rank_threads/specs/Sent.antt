@@ -4,7 +4,7 @@ use Rattle.std.specs.List.{AllByRecursion}
 use Rattle.mds_types.specs.declared.entries.Entry.{Entry}
 use Rattle.mds_types.specs.declared.requests.Request.{Request}
 use Rattle.cluster_core.specs.OneThread.{IsSent, arrival, waiting_in}
-use Rattle.cluster_core.specs.State.{BookState}
+use Rattle.cluster_core.specs.State.{KeptState}
 use Rattle.rank_threads.specs.declared.plans.Turn.{Turn}
 use Rattle.rank_threads.specs.declared.plans.Turn.TheVariants.{Step, Commit, Own, Keep}
 
@@ -28,7 +28,7 @@ EachIsSent sent plans = AllByRecursion (λ turns. AllByRecursion (Contains sent)
 
 -- a book of this limit serves these requests, behind the history that was handed in: what was applied since then, and
 -- what waits, is of them
-pub record Serves (limit : ℕ) (sent : List Request) (begun : List Entry) (book : BookState) : Type 0 where
+pub record Serves (limit : ℕ) (sent : List Request) (begun : List Entry) (book : KeptState) : Type 0 where
   pub limited : book.core.state.tree.limit ≡ limit
   pub asked : AllByRecursion (IsSent sent) (drop (length begun) book.history)
   pub waits : AllByRecursion (Contains sent) (waiting_in book.core.state.inboxes)

@@ -1,14 +1,30 @@
--- A receipt beside others, whose places were named before it.
-use Rattle.std.specs.Prelude.{◌≡◌, ◌≤◌, ℕ, Bool, true, false, List, cond, get_or, set}
+-- Receipts beside the entries that aren't forgotten, looked at one after the other.
+use Rattle.std.specs.Prelude.{◌≡◌, ◌≤◌, ◌-◌, ℕ, Bool, true, false, List, cond, get_or, set}
+use Rattle.std.specs.List.{AllByRecursion}
 use Rattle.mds_types.specs.declared.entries.Entry.{Entry}
 use Rattle.cluster_core.specs.declared.receipts.Receipt.{Receipt}
-use Rattle.cluster_core.specs.OneThread.{IsHeld}
+use Rattle.cluster_core.specs.OneThread.{NoneTwice, StandsInHistory, first_places}
+
+-- the entry of a receipt isn't forgotten, where so many are
+abbrev pub IsThere : ℕ → Receipt → Type 0
+IsThere forgotten r = forgotten ≤ r.place
+
+-- it is there, and holds the receipt: the first entry that isn't forgotten is that of the place behind those that are
+abbrev pub IsHeldAmong : ℕ → List Entry → Receipt → Type 0
+IsHeldAmong forgotten history r =
+    IsThere forgotten r × StandsInHistory history r.client r.tid (r.place - forgotten) r.reply
+
+-- each receipt is held so; those marked first name distinct places from this one on
+pub record StandAmong (forgotten : ℕ) (history : List Entry) (from : ℕ) (receipts : List Receipt) : Type 0 where
+  pub held : AllByRecursion (IsHeldAmong forgotten history) receipts
+  pub newer : AllByRecursion (λ place. from ≤ place) (first_places receipts)
+  pub apart : NoneTwice (first_places receipts)
 
 -- a receipt stands beside others, whose first ones' places are named
-pub record Fits (history : List Entry) (from : ℕ) (named : List Bool) (r : Receipt) : Type 0 where
-  pub held : IsHeld history r
-  pub first : r.first ≡ true → (from ≤ r.place) × (get_or named r.place false ≡ false)
+pub record Fits (forgotten : ℕ) (history : List Entry) (from : ℕ) (named : List Bool) (r : Receipt) : Type 0 where
+  pub held : IsHeldAmong forgotten history r
+  pub first : r.first ≡ true → (from ≤ r.place) × (get_or named (r.place - forgotten) false ≡ false)
 
 -- the named places, with that of a receipt that is marked first
-abbrev pub marked : List Bool → Receipt → List Bool
-marked named r = cond r.first (set named r.place true) named
+abbrev pub marked : ℕ → List Bool → Receipt → List Bool
+marked forgotten named r = cond r.first (set named (r.place - forgotten) true) named

@@ -1,5 +1,5 @@
 //! What lies under the lock.
-ghost use Rattle.std.specs.Prelude.{Result, ◌≡◌, ◌+◌, ◌<◌, ℕ, List, [], Contains, cond, length, take};
+ghost use Rattle.std.specs.Prelude.{Result, None, ◌≡◌, ◌+◌, ◌<◌, ◌++◌, List, [], Contains, cond, length, take};
 ghost use Rattle.std.specs.List.{AllByRecursion};
 ghost use Rattle.std.specs.Coded.{codes};
 ghost use Rattle.std.specs.FinMap as map;
@@ -7,10 +7,13 @@ ghost use Rattle.mds_types.specs.declared.entries.Entry.{Entry as Applied};
 ghost use Rattle.mds_types.specs.declared.requests.Request.{Request as Asked};
 ghost use Rattle.mds_types.specs.Tree.{Tree};
 ghost use Rattle.cluster_core.specs.OneThread.{IsAskedFor, arrival, receipt_of};
+ghost use Rattle.cluster_core.specs.Sound.{StandsBehind, IsSoundKept};
+ghost use Rattle.cluster_core.specs.State.{KeptState, new_caches, new_state, places_of, whole_of};
 ghost use Rattle.cluster_core.specs.declared.events.Event.TheVariants.{CommitBegin, CommitDrop, CommitEnd};
-ghost use Rattle.rank_threads.specs.Continued.{Continues};
+ghost use Rattle.rank_threads.specs.Continued.{Continues, StaysBehind};
 ghost use Rattle.rank_threads.specs.OneStep.{IsOneStep, IsStepTold, done_of, job_of};
 ghost use Rattle.rank_threads.specs.Sent.{Serves};
+ghost use Rattle.rank_threads.specs.TookTurn.{MadeStep};
 ghost use Rattle.rank_threads.specs.Turns.{first_in};
 
 use cached_frag::{Encoded, Job};
@@ -24,45 +27,42 @@ use std::sync::ledger::{Ledger, Share};
 
 /// What a run was handed. Each call of a run picks its own.
 pub trait Handed: Ledger {
-    /// The history that it was handed.
-    ghost begun: { List Applied };
+    /// The book that it was handed.
+    ghost first: { KeptState };
 
-    /// The tree that its book opened with.
-    ghost opened: { Tree };
-
-    /// How many entries a directory of that tree may have.
-    ghost limit: { ℕ };
-
-    /// The requests that waited in its book, and those that the turns of its plans bring.
+    /// The requests that waited in it, and those that the turns of the plans bring.
     ghost sent: { List Asked };
 }
 
 impl Handed for Brand {
-    ghost begun = { [] };
-
-    ghost opened = { map.empty };
-
-    ghost limit = { 0 };
+    ghost first = { record {
+      opening = None;
+      history = [];
+      core = record { state = new_state 1 1; caches = new_caches 1 512; faults = 0 };
+    } };
 
     ghost sent = { [] };
 }
 
-/// The book, with the total of all shares: as long as the history is. The history begins with the one that was handed
-/// in; what was applied since, and what waits, is of the requests that were sent.
+/// The book, with the total of all shares: as many as the history has places. The book goes on from whatever the one that
+/// was handed in went on from, and its history begins with that one's, of which no entry was forgotten; what was applied
+/// since, and what waits, is of the requests that were sent.
 #[derive(Drop)]
 pub(crate) struct Desk<S: Store + Drop, L: Handed> {
     pub(crate) book: Book<S>,
     pub(crate) total: ledger::Book<L>,
-    ghost counted: { length book.history ≡ total.total },
-    ghost begins: { take (length L.begun) book.history ≡ L.begun },
-    ghost opens: { book.opening ≡ L.opened } by { Prim.hlevel (codes, map.code) },
-    ghost serves: { ∥ Serves L.limit L.sent L.begun book ∥₁ },
+    ghost counted: { places_of book ≡ total.total },
+    ghost begins: { take (length L.first.history) book.history ≡ L.first.history },
+    ghost same_past: { book.core.state.sessions.forgotten ≡ L.first.core.state.sessions.forgotten },
+    ghost opens: { book.opening ≡ L.first.opening } by { Prim.hlevel (codes, map.code) },
+    ghost goes_on: { ∥ StaysBehind L.first book ∥₁ },
+    ghost serves: { ∥ Serves L.first.core.state.tree.limit L.sent L.first.history book ∥₁ },
 }
 
 impl<S: Store + Drop, L: Handed> Desk<S, L> {
     /// One step of the book, of an event whose request, if it brings one, was sent. The share rises by one where the step
     /// adds an entry to the history, and a reply that is handed out was asked for.
-    #[tactic(auto, using(crate::proofs::StepLaws::still_begins, crate::proofs::StepLaws::counts_on, crate::proofs::StepLaws::one_step))]
+    #[tactic(auto, using(crate::proofs::StepLaws::counts_on, crate::proofs::StepLaws::made_step))]
     pub(crate) fn step(
         &mut self,
         alloc: Global,
@@ -74,9 +74,12 @@ impl<S: Store + Drop, L: Handed> Desk<S, L> {
         ensures parts { mine.new.parts ≡ mine.old.parts }
         ensures amount { mine.new.amount ≡ mine.old.amount + first_in result }
         ensures asked_for { ∥ AllByRecursion (IsAskedFor L.sent) (receipt_of result) ∥₁ }
-        ensures stepped { IsOneStep self.old.book self.new.book event result }
+        ensures stepped { (opening : Tree) (past : List Applied) → StandsBehind opening past self.old.book
+            → IsOneStep (whole_of opening past self.old.book) (whole_of opening past self.new.book) event result }
+        ensures sound { IsSoundKept self.old.book }
     {
         let Desk { book, total } = self;
+        book.is_sound();
         let answer = book.step(alloc, event);
         if is_first(&answer) {
             total.add(mine, 1);
@@ -85,7 +88,7 @@ impl<S: Store + Drop, L: Handed> Desk<S, L> {
     }
 
     /// A commit of a leaf begins at a rank: its job, unless the leaf is clean. The history stays.
-    #[tactic(auto, using(crate::proofs::StepLaws::one_step))]
+    #[tactic(auto, using(crate::proofs::StepLaws::made_step))]
     pub(crate) fn begin(
         &mut self,
         alloc: Global,
@@ -93,8 +96,12 @@ impl<S: Store + Drop, L: Handed> Desk<S, L> {
         ino: Ino,
         frag: Frag,
     ) -> Result<Option<Job>, Refusal>
-        ensures { IsStepTold self.old.book self.new.book (CommitBegin rank ino frag) job_of result }
+        ensures told { (opening : Tree) (past : List Applied) → StandsBehind opening past self.old.book
+            → IsStepTold (whole_of opening past self.old.book) (whole_of opening past self.new.book)
+            (CommitBegin rank ino frag) job_of result }
+        ensures sound { IsSoundKept self.old.book }
     {
+        self.book.is_sound();
         match self
             .book
             .step(alloc, Event::CommitBegin { rank, ino, frag })
@@ -109,38 +116,42 @@ impl<S: Store + Drop, L: Handed> Desk<S, L> {
     }
 
     /// The commit of what was encoded ends. The history stays.
-    #[tactic(auto, using(crate::proofs::StepLaws::one_step))]
+    #[tactic(auto, using(crate::proofs::StepLaws::made_step))]
     pub(crate) fn end(&mut self, alloc: Global, encoded: Encoded) -> Result<(), Refusal>
-        ensures { IsStepTold self.old.book self.new.book (CommitEnd encoded) done_of result }
+        ensures { (opening : Tree) (past : List Applied) → StandsBehind opening past self.old.book
+            → IsStepTold (whole_of opening past self.old.book) (whole_of opening past self.new.book)
+            (CommitEnd encoded) done_of result }
     {
+        self.book.is_sound();
         done(self.book.step(alloc, Event::CommitEnd(encoded)))
     }
 
     /// A commit is given up. The history stays.
-    #[tactic(auto, using(crate::proofs::StepLaws::one_step))]
+    #[tactic(auto, using(crate::proofs::StepLaws::made_step))]
     pub(crate) fn give_up(&mut self, alloc: Global, job: u64)
-        ensures { (came : Result Answer Refusal) × IsOneStep self.old.book self.new.book (CommitDrop job) came }
+        ensures { (came : Result Answer Refusal) × MadeStep (CommitDrop job) came }
     {
+        self.book.is_sound();
         let _ = self.book.step(alloc, Event::CommitDrop { job });
     }
 
     /// The book, where shares were lost.
     #[tactic(auto, using(crate::proofs::StepLaws::continued))]
     pub(crate) fn close(self) -> Book<S>
-        ensures { Continues L.opened L.begun result }
+        ensures { Continues L.first result }
     {
         let Desk { book, .. } = self;
         book.is_sound();
         book
     }
 
-    /// The book, once all shares are gathered: its history has as many entries as they say.
+    /// The book, once all shares are gathered: its history has as many places as they say.
     #[tactic(auto, using(crate::proofs::StepLaws::continued, crate::proofs::Found::kept_serves))]
     pub(crate) fn settle(self, all: &mut Share<L>) -> Book<S>
         requires { all.old.parts ≡ L.parts }
-        ensures counted { length result.history ≡ all.old.amount }
-        ensures continued { Continues L.opened L.begun result }
-        ensures serves { Serves L.limit L.sent L.begun result }
+        ensures counted { places_of result ≡ all.old.amount }
+        ensures continued { Continues L.first result }
+        ensures serves { Serves L.first.core.state.tree.limit L.sent L.first.history result }
     {
         let Desk {
             book,

@@ -42,7 +42,7 @@ pub enum RunFault {
     #[error("a thread can't be made")]
     Spawn,
     /// The history does not hold a reply at its place, or two requests were told that they were applied at one place,
-    /// or at an older one.
+    /// or at an older one; or the entry of a reply that was handed out again was forgotten before the run.
     #[error("replies don't agree with the history")]
     Strayed,
 }

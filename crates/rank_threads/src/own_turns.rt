@@ -1,10 +1,13 @@
 //! The steps that a rank makes of its own.
-ghost use Rattle.std.specs.Prelude.{◌≡◌, Ok, Some};
+ghost use Rattle.std.specs.Prelude.{◌≡◌, List, Ok, Some};
 ghost use Rattle.std.specs.FinMap as map;
 ghost use Rattle.cluster_core.specs.declared.events.Event.TheVariants.{Send};
 ghost use Rattle.cluster_core.specs.Proposal.{Proposes};
 ghost use Rattle.cluster_core.specs.SentBytes.{none_sent};
-ghost use Rattle.cluster_core.specs.State.{Core};
+ghost use Rattle.cluster_core.specs.Sound.{StandsBehind, IsSoundKept};
+ghost use Rattle.cluster_core.specs.State.{Core, whole_of};
+ghost use Rattle.mds_types.specs.Tree.{Tree};
+ghost use Rattle.mds_types.specs.declared.entries.Entry.{Entry as Applied};
 ghost use Rattle.rank_threads.specs.OneStep.{answer_of};
 ghost use Rattle.rank_threads.specs.OwnTurn.{KeepsBytes, StepsOwn, TakesOwnTurn, import_with, step_of};
 
@@ -49,12 +52,15 @@ impl<S: Store + Drop, L: Handed> Desk<S, L> {
     /// A rank proposes a step of its own, and makes it, if there is one. An Import is given the bytes that the rank's
     /// thread keeps; one whose bytes aren't kept there is passed over. The history stays. Answers whether a step was
     /// made.
-    #[tactic(auto, using(crate::proofs::OwnTurnLaws::took_turn))]
+    #[tactic(auto, using(crate::proofs::OwnTurnLaws::took_behind))]
     pub(crate) fn own(&mut self, alloc: Global, own: &mut OwnTurns) -> Result<bool, Refusal>
         ensures rank { own.new.rank ≡ own.old.rank }
-        ensures turn { TakesOwnTurn self.old.book self.new.book own.old.rank own.old.kept.bytes
-            own.new.kept.bytes result }
+        ensures turn { (opening : Tree) (past : List Applied) → StandsBehind opening past self.old.book
+            → TakesOwnTurn (whole_of opening past self.old.book) (whole_of opening past self.new.book) own.old.rank
+            own.old.kept.bytes own.new.kept.bytes result }
+        ensures sound { IsSoundKept self.old.book }
     {
+        self.book.is_sound();
         match self.book.propose(own.rank) {
             Ok(Some(event)) => self.make(alloc, &mut own.kept, event),
             Ok(None) => Ok(false),
@@ -63,12 +69,14 @@ impl<S: Store + Drop, L: Handed> Desk<S, L> {
     }
 
     // Makes a step that a rank proposed.
-    #[tactic(auto, using(crate::proofs::OwnTurnLaws::made_other, crate::proofs::StepLaws::one_step))]
+    #[tactic(auto, using(crate::proofs::OwnTurnLaws::made_other, crate::proofs::StepLaws::made_step))]
     fn make(&mut self, alloc: Global, kept: &mut KeptBytes, event: Event) -> Result<bool, Refusal>
         requires { (core : Core) × (rank : Rank) × Proposes core rank (Ok (Some event)) }
-        ensures { StepsOwn self.old.book self.new.book kept.old.bytes kept.new.bytes
-            (step_of kept.old.bytes event) result }
+        ensures { (opening : Tree) (past : List Applied) → StandsBehind opening past self.old.book
+            → StepsOwn (whole_of opening past self.old.book) (whole_of opening past self.new.book)
+            kept.old.bytes kept.new.bytes (step_of kept.old.bytes event) result }
     {
+        self.book.is_sound();
         match event {
             Event::Send { ino, frag } => self.send(alloc, kept, ino, frag),
             Event::Import { ino, frag, bytes } => {
@@ -81,7 +89,7 @@ impl<S: Store + Drop, L: Handed> Desk<S, L> {
 
     // An export is sent, and what it hands over is kept. Room for it comes first: once it is sent, nothing but its
     // Import ends it.
-    #[tactic(auto, using(crate::proofs::OwnTurnLaws::sent_nothing, crate::proofs::StepLaws::one_step))]
+    #[tactic(auto, using(crate::proofs::OwnTurnLaws::sent_nothing, crate::proofs::StepLaws::made_step))]
     fn send(
         &mut self,
         alloc: Global,
@@ -89,8 +97,11 @@ impl<S: Store + Drop, L: Handed> Desk<S, L> {
         ino: Ino,
         frag: Frag,
     ) -> Result<bool, Refusal>
-        ensures { StepsOwn self.old.book self.new.book kept.old.bytes kept.new.bytes (Some (Send ino frag)) result }
+        ensures { (opening : Tree) (past : List Applied) → StandsBehind opening past self.old.book
+            → StepsOwn (whole_of opening past self.old.book) (whole_of opening past self.new.book)
+            kept.old.bytes kept.new.bytes (Some (Send ino frag)) result }
     {
+        self.book.is_sound();
         if kept.reserve().is_err() {
             return Err(Refusal::NoMemory);
         }
@@ -109,7 +120,7 @@ impl<S: Store + Drop, L: Handed> Desk<S, L> {
 
     // An export is imported, if its bytes are kept. The importer is given a copy, since an Import that is refused has
     // eaten its bytes.
-    #[tactic(auto, using(crate::proofs::OwnTurnLaws::passed_over, crate::proofs::OwnTurnLaws::not_copied, crate::proofs::OwnTurnLaws::imported, crate::proofs::StepLaws::one_step))]
+    #[tactic(auto, using(crate::proofs::OwnTurnLaws::passed_over, crate::proofs::OwnTurnLaws::not_copied, crate::proofs::OwnTurnLaws::imported, crate::proofs::StepLaws::made_step))]
     fn import(
         &mut self,
         alloc: Global,
@@ -117,9 +128,11 @@ impl<S: Store + Drop, L: Handed> Desk<S, L> {
         ino: Ino,
         frag: Frag,
     ) -> Result<bool, Refusal>
-        ensures { StepsOwn self.old.book self.new.book kept.old.bytes kept.new.bytes
-            (import_with ino frag (map.get kept.old.bytes (ino, frag))) result }
+        ensures { (opening : Tree) (past : List Applied) → StandsBehind opening past self.old.book
+            → StepsOwn (whole_of opening past self.old.book) (whole_of opening past self.new.book)
+            kept.old.bytes kept.new.bytes (import_with ino frag (map.get kept.old.bytes (ino, frag))) result }
     {
+        self.book.is_sound();
         if !kept.has(ino, frag) {
             return Ok(false);
         }

@@ -1,9 +1,14 @@
 //! A run of a book on many threads.
-ghost use Rattle.std.specs.Prelude.{◌≡◌, ◌+◌, ◌≤◌, ◌++◌, Contains, IfOk, IfErr, length, vec_len};
+ghost use Rattle.std.specs.Prelude.{◌≡◌, ◌+◌, ◌≤◌, ◌++◌, Contains, List, IfOk, IfErr, vec_len};
 ghost use Rattle.std.specs.List.{AllByRecursion};
-ghost use Rattle.cluster_core.specs.OneThread.{Agree, IsAskedFor, IsOneThread, Stand, waiting_in};
+ghost use Rattle.mds_types.specs.Tree.{Tree};
+ghost use Rattle.mds_types.specs.declared.entries.Entry.{Entry as Applied};
+ghost use Rattle.cluster_core.specs.OneThread.{Agree, IsAskedFor, IsOneThread, waiting_in};
+ghost use Rattle.cluster_core.specs.Sound.{StandsBehind};
+ghost use Rattle.cluster_core.specs.State.{places_of};
 ghost use Rattle.rank_threads.specs.Continued.{Continues};
 ghost use Rattle.rank_threads.specs.Sent.{Serves, plans_arrivals};
+ghost use Rattle.rank_threads.specs.Standing.{StandAmong};
 ghost use Rattle.rank_threads.specs.TookTurn.{PlansTook, by_rank, kept_of};
 ghost use Rattle.rank_threads.specs.Turns.{PlansAnswered, firsts_of_all, lists_of, receipts_of_all};
 
@@ -30,14 +35,15 @@ use std::thread::Threads;
 /// than a stale job. All memory that the threads need is taken before the first lock, but that of the steps, the
 /// messages and the receipts.
 ///
-/// Whatever the schedule was, the book that comes back is a sound one with the opening tree of the book handed in, and
-/// its history begins with that book's. Where the run succeeds, each turn of each plan has a result, and the receipts,
+/// Whatever the schedule was, the book that comes back is a sound one that goes on from whatever opening tree and past the
+/// book handed in went on from, and its history begins with that book's: a run forgets nothing. Where the run succeeds, each turn of each plan has a result, and the receipts,
 /// which are the replies among them, are those of one thread that serves one plain tree the requests that waited and
 /// those that the plans bring. Each turn made what it says, with its result, and each thread hands back the bytes that
 /// its own turns sent, or that it was given to keep, and that none of them imported.
 ///
 /// The run waits for its threads. It fails with `NoMemory` where memory was refused, `Spawn` where a thread can't be
-/// made, and `Strayed` where a reply that was handed out isn't the history's.
+/// made, and `Strayed` where a reply that was handed out isn't the history's, or is one whose entry was forgotten before:
+/// `Book::forget_passed` forgets no entry whose reply may be handed out again, `Book::forget` may.
 pub fn run_cluster<S, G, R>(
     rt: &R,
     alloc: Global,
@@ -53,14 +59,15 @@ where
     requires planned { vec_len plans ≤ 16 }
     requires some { 1 ≤ workers }
     requires most { workers ≤ 16 }
-    ensures ok { IfOk result (λ o. Continues book.opening book.history o.book) }
-    ensures err { IfErr result (λ e. Continues book.opening book.history e.book) }
+    ensures ok { IfOk result (λ o. Continues book o.book) }
+    ensures err { IfErr result (λ e. Continues book e.book) }
     ensures answered { IfOk result (λ o. PlansAnswered (lists_of plans.items) (lists_of o.answers.items)) }
     ensures took { IfOk result (λ o.
         PlansTook (by_rank (lists_of plans.items)) (lists_of o.answers.items) (kept_of o.kept.items)) }
     ensures told { IfOk result (λ o. o.receipts.items ≡ receipts_of_all (lists_of o.answers.items)) }
-    ensures one_thread { IfOk result (λ o. IsOneThread book.core.state.tree.limit book.opening book.history
-        o.book.history (waiting_in book.core.state.inboxes ++ plans_arrivals (lists_of plans.items)) o.receipts.items) }
+    ensures one_thread { (opening : Tree) (past : List Applied) → StandsBehind opening past book → IfOk result
+        (λ o. IsOneThread book.core.state.tree.limit opening (past ++ book.history) (past ++ o.book.history)
+        (waiting_in book.core.state.inboxes ++ plans_arrivals (lists_of plans.items)) o.receipts.items) }
     ensures waits { IfOk result (λ o.
         AllByRecursion (Contains (waiting_in book.core.state.inboxes ++ plans_arrivals (lists_of plans.items)))
         (waiting_in o.book.core.state.inboxes)) }
@@ -95,24 +102,25 @@ where
     requires parts { blank.parts ≡ L.parts }
     requires each { blank.parts ≡ vec_len asked.plans + 1 }
     requires few { vec_len asked.plans ≤ 16 }
-    requires begun { L.begun ≡ book.history }
-    requires opened { L.opened ≡ book.opening }
-    requires limit { L.limit ≡ book.core.state.tree.limit }
+    requires first { L.first ≡ book }
     requires sent { L.sent ≡ waiting_in book.core.state.inboxes ++ plans_arrivals (lists_of asked.plans.items) }
-    ensures ok { IfOk result (λ o. Continues book.opening book.history o.book) }
-    ensures err { IfErr result (λ e. Continues book.opening book.history e.book) }
+    ensures ok { IfOk result (λ o. Continues book o.book) }
+    ensures err { IfErr result (λ e. Continues book e.book) }
     ensures answered { IfOk result (λ o. PlansAnswered (lists_of asked.plans.items) (lists_of o.answers.items)) }
     ensures took { IfOk result (λ o.
         PlansTook (by_rank (lists_of asked.plans.items)) (lists_of o.answers.items) (kept_of o.kept.items)) }
     ensures told { IfOk result (λ o. o.receipts.items ≡ receipts_of_all (lists_of o.answers.items)) }
-    ensures one_thread { IfOk result (λ o. IsOneThread book.core.state.tree.limit book.opening book.history
-        o.book.history (waiting_in book.core.state.inboxes ++ plans_arrivals (lists_of asked.plans.items)) o.receipts.items) }
+    ensures one_thread { (opening : Tree) (past : List Applied) → StandsBehind opening past book → IfOk result
+        (λ o. IsOneThread book.core.state.tree.limit opening (past ++ book.history) (past ++ o.book.history)
+        (waiting_in book.core.state.inboxes ++ plans_arrivals (lists_of asked.plans.items)) o.receipts.items) }
     ensures waits { IfOk result (λ o.
         AllByRecursion (Contains (waiting_in book.core.state.inboxes ++ plans_arrivals (lists_of asked.plans.items)))
         (waiting_in o.book.core.state.inboxes)) }
-    ensures agree { IfOk result (λ o. Agree o.book.history (length book.history) o.receipts.items) }
+    ensures agree { (opening : Tree) (past : List Applied) → StandsBehind opening past book → IfOk result
+        (λ o. Agree (past ++ o.book.history) (places_of book) o.receipts.items) }
 {
-    let from = book.history().len();
+    book.is_sound();
+    let from = book.places();
     let (mut total, mut all) = blank.open::<L>();
     total.add(&mut all, from as u64);
     let Asked { plans, workers } = asked;
@@ -136,7 +144,6 @@ where
 
 // What a run gave, once its threads have ended. Each receipt is looked up; how many are marked first is known by the
 // shares.
-#[tactic(auto, using(crate::proofs::TurnLaws::agree_of, crate::proofs::AskedLaws::one_of, crate::proofs::Found::kept_asked))]
 fn settled<S: Store + Drop, L: Handed>(
     alloc: Global,
     desk: Desk<S, L>,
@@ -144,16 +151,18 @@ fn settled<S: Store + Drop, L: Handed>(
     ran: Ran<L>,
 ) -> Result<Outcome<S>, RunError<S>>
     requires parts { ran.all.parts ≡ L.parts }
-    requires from { from ≡ length L.begun }
-    requires amount { ran.all.amount ≡ length L.begun + firsts_of_all (lists_of ran.answers.items) }
+    requires from { from ≡ places_of L.first }
+    requires amount { ran.all.amount ≡ places_of L.first + firsts_of_all (lists_of ran.answers.items) }
     requires asked_for { ∥ AllByRecursion (IsAskedFor L.sent) (receipts_of_all (lists_of ran.answers.items)) ∥₁ }
-    ensures ok { IfOk result (λ o. Continues L.opened L.begun o.book) }
-    ensures err { IfErr result (λ e. Continues L.opened L.begun e.book) }
+    ensures ok { IfOk result (λ o. Continues L.first o.book) }
+    ensures err { IfErr result (λ e. Continues L.first e.book) }
     ensures told { IfOk result (λ o. o.receipts.items ≡ receipts_of_all (lists_of o.answers.items)) }
-    ensures one_thread { IfOk result (λ o.
-        IsOneThread L.limit L.opened L.begun o.book.history L.sent o.receipts.items) }
+    ensures one_thread { (opening : Tree) (past : List Applied) → StandsBehind opening past L.first → IfOk result
+        (λ o. IsOneThread L.first.core.state.tree.limit opening (past ++ L.first.history) (past ++ o.book.history)
+        L.sent o.receipts.items) }
     ensures waits { IfOk result (λ o. AllByRecursion (Contains L.sent) (waiting_in o.book.core.state.inboxes)) }
-    ensures agree { IfOk result (λ o. Agree o.book.history (length L.begun) o.receipts.items) }
+    ensures agree { (opening : Tree) (past : List Applied) → StandsBehind opening past L.first → IfOk result
+        (λ o. Agree (past ++ o.book.history) (places_of L.first) o.receipts.items) }
     ensures answers { IfOk result (λ o. o.answers ≡ ran.answers) }
     ensures kept { IfOk result (λ o. o.kept ≡ ran.kept) }
 {
@@ -176,7 +185,7 @@ fn settled<S: Store + Drop, L: Handed>(
     }
 }
 
-// The receipts of the replies among all results, each of which the history holds at its place.
+// The receipts of the replies among all results, each of which the history holds at its place, where it isn't forgotten.
 fn checked<S: Store + Drop>(
     alloc: Global,
     book: &Book<S>,
@@ -184,12 +193,13 @@ fn checked<S: Store + Drop>(
     answers: &Vec<Vec<Answered>>,
 ) -> Result<Vec<Receipt>, RunFault>
     ensures told { IfOk result (λ receipts. receipts.items ≡ receipts_of_all (lists_of answers.now.items)) }
-    ensures stand { IfOk result (λ receipts. Stand book.now.history from receipts.items) }
+    ensures stand { IfOk result (λ receipts.
+        StandAmong book.now.core.state.sessions.forgotten book.now.history from receipts.items) }
 {
     let Ok(receipts) = receipts_of_all(alloc, answers) else {
         return Err(RunFault::NoMemory);
     };
-    match stand(alloc, book.history(), from, receipts.as_slice()) {
+    match stand(alloc, book, from, receipts.as_slice()) {
         Ok(true) => Ok(receipts),
         Ok(false) => Err(RunFault::Strayed),
         Err(_) => Err(RunFault::NoMemory),

@@ -1,7 +1,11 @@
 //! Whether receipts agree with a history.
-ghost use Rattle.std.specs.Prelude.{◌≡◌, ◌↔◌, ◌<◌, IfOk, IfErr, IsTrue, false, get_or, length, vec_len};
-ghost use Rattle.cluster_core.specs.OneThread.{Agree, IsHeld, Stand, first_places};
-ghost use Rattle.rank_threads.specs.Standing.{Fits, marked};
+ghost use Rattle.std.specs.Prelude.{◌≡◌, ◌↔◌, ◌-◌, ◌<◌, ◌≤◌, ◌++◌, List, IfOk, IfErr, IsTrue, false, get_or, length, vec_len};
+ghost use Rattle.std.specs.List.{AllByRecursion};
+ghost use Rattle.mds_types.specs.Tree.{Tree};
+ghost use Rattle.mds_types.specs.declared.entries.Entry.{Entry as Applied};
+ghost use Rattle.cluster_core.specs.OneThread.{Agree, first_places};
+ghost use Rattle.cluster_core.specs.Sound.{StandsBehind};
+ghost use Rattle.rank_threads.specs.Standing.{Fits, IsHeldAmong, IsThere, StandAmong, marked};
 
 use crate::replies::is_same;
 use cluster_core::{Book, Receipt};
@@ -10,43 +14,65 @@ use objstore::Store;
 use std::alloc::{AllocError, Global};
 
 /// Whether receipts agree with a book's history from a place on: each names a place that holds its client, transaction
-/// number and reply, and those marked first name distinct places from there on, as many as the history has. Takes
-/// memory, a byte for each entry of the history; refused `NoMemory` alone.
+/// number and reply, and those marked first name distinct places from there on, as many as the history has. Places are
+/// counted from the first entry ever. What an entry held that is forgotten nobody can tell: a receipt of one agrees with
+/// nothing. Of what a run applies and repeats none is, where the book forgot by `Book::forget_passed` alone, since a run
+/// forgets nothing. Takes memory, a byte for each entry that isn't forgotten; refused `NoMemory` alone.
 pub fn audit<S: Store + Drop>(
     alloc: Global,
     book: &Book<S>,
     from: usize,
     receipts: &[Receipt],
 ) -> Result<bool, Refusal>
-    ensures ok { IfOk result (λ yes. IsTrue yes ↔ Agree book.now.history from receipts.now) }
+    ensures ok { (opening : Tree) (past : List Applied) → StandsBehind opening past book.now → IfOk result
+        (λ yes. IsTrue yes ↔ (Agree (past ++ book.now.history) from receipts.now
+        × AllByRecursion (IsThere (length past)) receipts.now)) }
     ensures err { IfErr result (λ refusal. refusal ≡ Refusal.NoMemory) }
 {
-    let history = book.history();
-    match stand(alloc, history, from, receipts) {
-        Ok(yes) => Ok(yes && count_firsts(receipts) == history.len().saturating_sub(from)),
+    let new = book.places().saturating_sub(from);
+    match stand(alloc, book, from, receipts) {
+        Ok(true) => Ok(count_firsts(receipts) == new),
+        Ok(false) => Ok(false),
         Err(_) => Err(Refusal::NoMemory),
     }
 }
 
-/// Whether each receipt's place holds it, and those marked first name distinct places from a place on.
-#[tactic(auto, using(crate::proofs::ReceiptLaws::marked_none, crate::proofs::ReceiptLaws::stand_end))]
-pub(crate) fn stand(
+/// Whether the place of each receipt holds it and isn't forgotten, and those marked first name distinct places from a
+/// place on.
+pub(crate) fn stand<S: Store + Drop>(
     alloc: Global,
+    book: &Book<S>,
+    from: usize,
+    receipts: &[Receipt],
+) -> Result<bool, AllocError>
+    ensures { IfOk result (λ yes. IsTrue yes
+        ↔ StandAmong book.now.core.state.sessions.forgotten book.now.history from receipts.now) }
+{
+    let history = book.history();
+    let forgotten = book.places() - history.len();
+    stand_among(alloc, forgotten, history, from, receipts)
+}
+
+// So for the entries that aren't forgotten, behind so many that are.
+#[tactic(auto, using(crate::proofs::ReceiptLaws::marked_none, crate::proofs::ReceiptLaws::stand_end))]
+fn stand_among(
+    alloc: Global,
+    forgotten: usize,
     history: &[Entry],
     from: usize,
     receipts: &[Receipt],
 ) -> Result<bool, AllocError>
-    ensures { IfOk result (λ yes. IsTrue yes ↔ Stand history.now from receipts.now) }
+    ensures { IfOk result (λ yes. IsTrue yes ↔ StandAmong forgotten history.now from receipts.now) }
 {
     let mut named = vec![in alloc; false; history.len()]?;
     let mut left = receipts.len();
     while left > 0 {
         left -= 1;
         let receipt = &receipts[left];
-        if !fits(history, from, &named, receipt) {
+        if !fits(forgotten, history, from, &named, receipt) {
             return Ok(false);
         }
-        mark(&mut named, receipt);
+        mark(forgotten, &mut named, receipt);
     }
     Ok(true)
 }
@@ -66,12 +92,19 @@ fn count_firsts(receipts: &[Receipt]) -> usize
 }
 
 // Whether a receipt stands beside others, whose first ones' places are named.
-fn fits(history: &[Entry], from: usize, named: &Vec<bool>, receipt: &Receipt) -> bool
+fn fits(
+    forgotten: usize,
+    history: &[Entry],
+    from: usize,
+    named: &Vec<bool>,
+    receipt: &Receipt,
+) -> bool
     requires { vec_len named.now ≡ length history.now }
-    ensures { IsTrue result ↔ Fits history.now from named.now.items receipt.now }
+    ensures { IsTrue result ↔ Fits forgotten history.now from named.now.items receipt.now }
 {
-    is_held(history, receipt)
-        && (!receipt.first || (from <= receipt.place && !is_named(named, receipt.place)))
+    is_held(forgotten, history, receipt)
+        && (!receipt.first
+            || (from <= receipt.place && !is_named(named, receipt.place - forgotten)))
 }
 
 // Whether a place is named.
@@ -85,20 +118,24 @@ fn is_named(named: &Vec<bool>, place: usize) -> bool
 }
 
 // Names the place of a receipt that is marked first.
-fn mark(named: &mut Vec<bool>, receipt: &Receipt)
-    requires { receipt.now.place < vec_len named.old }
-    ensures { named.new.items ≡ marked named.old.items receipt.now }
+fn mark(forgotten: usize, named: &mut Vec<bool>, receipt: &Receipt)
+    requires there { IsThere forgotten receipt.now }
+    requires below { receipt.now.place - forgotten < vec_len named.old }
+    ensures { named.new.items ≡ marked forgotten named.old.items receipt.now }
 {
     if receipt.first {
-        named[receipt.place] = true;
+        named[receipt.place - forgotten] = true;
     }
 }
 
-// Whether a receipt's place holds its client, transaction number and reply.
-fn is_held(history: &[Entry], receipt: &Receipt) -> bool
-    ensures { IsTrue result ↔ IsHeld history.now receipt.now }
+// Whether a receipt's place isn't forgotten, and holds its client, transaction number and reply.
+fn is_held(forgotten: usize, history: &[Entry], receipt: &Receipt) -> bool
+    ensures { IsTrue result ↔ IsHeldAmong forgotten history.now receipt.now }
 {
-    match history.get(receipt.place) {
+    if receipt.place < forgotten {
+        return false;
+    }
+    match history.get(receipt.place - forgotten) {
         Some(entry) => {
             entry.client == receipt.client
                 && entry.tid == receipt.tid

@@ -23,6 +23,8 @@ pub(crate) enum Queue {
     FullThere { from: Rank, to: Rank },
     /// The request is older than the oldest that its own client still asks for.
     Old { client: u64, tid: u64, oldest: u64 },
+    /// So it is, and entries are forgotten that may tell which is the oldest.
+    OldOf { client: u64, tid: u64 },
     /// The request that was at the front was older than that.
     OldFront(Rank),
 }
@@ -75,9 +77,12 @@ pub(crate) fn old<S: Store + Drop>(book: &Book<S>, asked: &Asked<'_>) -> Option<
     }
 }
 
-// What the client of a request still asks for.
+// What the client of a request still asks for: the greatest that it ever named, where no entry is forgotten.
 fn old_request<S: Store + Drop>(book: &Book<S>, request: &Request) -> Queue {
     let (client, tid) = (request.client, request.tid);
+    if book.places() > book.history().len() {
+        return Queue::OldOf { client, tid };
+    }
     let mut oldest = request.oldest;
     for entry in book.history() {
         if entry.client == client && entry.oldest > oldest {
@@ -116,6 +121,10 @@ impl fmt::Display for Queue {
             } => write!(
                 f,
                 "request {tid} of client {client} is below {oldest}, the oldest that it still asks for"
+            ),
+            Queue::OldOf { client, tid } => write!(
+                f,
+                "request {tid} of client {client} is below the oldest that it still asks for"
             ),
             Queue::OldFront(Rank(rank)) => write!(
                 f,

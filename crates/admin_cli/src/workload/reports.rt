@@ -1,5 +1,6 @@
 //! What a run prints.
-ghost use Rattle.std.specs.Prelude.{◌≡◌, ◌++◌, IfOk, IfSome, OnOk, length};
+ghost use Rattle.std.specs.Prelude.{◌≡◌, ◌++◌, IfOk, IfSome, OnOk};
+ghost use Rattle.cluster_core.specs.State.{places_of};
 ghost use Rattle.admin_cli.specs.Left.{BookGrows};
 ghost use Rattle.admin_cli.specs.Reports.{Reports, head_text, path_lines};
 
@@ -17,10 +18,10 @@ pub(crate) fn report<S: Keep + Drop>(
     book: &mut Book<S>,
     agrees: bool,
 ) -> Option<Vec<u8>>
-    ensures reports { IfSome result (λ text. Reports (length book.old.history) agrees text.items) }
+    ensures reports { IfSome result (λ text. Reports (places_of book.old) agrees text.items) }
     ensures goes_on { BookGrows book.old book.new }
 {
-    let served = book.history().len();
+    let served = book.places();
     let paths = all_paths(alloc, book)?;
     let mut text = head(alloc, served, agrees).ok()?;
     add_lines(&mut text, &paths).ok()?;

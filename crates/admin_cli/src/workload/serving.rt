@@ -1,19 +1,18 @@
 //! A whole run of `cephmeta serve`.
-ghost use Rattle.std.specs.Prelude.{◌≡◌, ◌⊎◌, ◌≤◌, IfErr, IfOk, IfSome, false, vec_len};
-ghost use Rattle.std.specs.FinMap as map;
-ghost use Rattle.cluster_core.specs.Sound.{IsSoundBook};
+ghost use Rattle.std.specs.Prelude.{◌≡◌, ◌⊎◌, ◌≤◌, IfErr, IfOk, IfSome, IsTrue, false, vec_len};
 ghost use Rattle.admin_cli.specs.Left.{BookGrows};
 ghost use Rattle.admin_cli.specs.Loads.{IsLoad};
-ghost use Rattle.admin_cli.specs.Reports.{IsText, ServesOut};
+ghost use Rattle.admin_cli.specs.Reports.{IsText, OpensEmpty, ServesOut};
 
 use crate::workload::loads::Load;
 use crate::workload::plans::plans_of;
 use crate::workload::reports::report;
 use crate::workload::setup::make_homes;
-use cluster_core::{Book, format};
+use crate::workload::steps::forget_passed;
+use cluster_core::{Book, PlainTree, format};
 use keeping::Keep;
 use mds_types::Limit;
-use objstore::MemStore;
+use objstore::{MemStore, Store};
 use rank_threads::{Gate, OpenGate, Outcome, RunError, RunFault, Turn, run_cluster};
 use script_output::{WriteFault, write_all_of};
 use std::alloc::Global;
@@ -35,8 +34,8 @@ pub enum ServeFault {
 }
 
 /// Runs a load over a cluster with an empty tree: each client's directory is made on one thread, then the ranks'
-/// threads create files in the directories and commit after each tenth, while workers encode. Writes how long the
-/// history is then, whether the audit holds, and every path below the root, one a line and sorted by bytes. At the run
+/// threads create files in the directories and commit after each tenth, while workers encode. Writes how many requests
+/// were applied then, whether the audit holds, and every path below the root, one a line and sorted by bytes. At the run
 /// faults 1 and 2 nothing is written, at 3 the text says that the audit failed, and at a write fault a beginning of the
 /// text is written.
 pub fn run_serve<W: Write, R: Threads + Wait + Sync + AllocGlobal>(
@@ -89,7 +88,7 @@ pub const CACHE: u32 = 4096;
 fn new_book(alloc: Global, ranks: u8) -> Option<Book<MemStore>>
     requires some { 1 ≤ ranks }
     requires ranked { ranks ≤ 16 }
-    ensures { IfSome result (λ book. book.opening ≡ map.empty) }
+    ensures { IfSome result OpensEmpty }
 {
     match format(alloc, MemStore::new(alloc), ranks, CACHE, Limit::MAX) {
         Ok(book) => Some(book),
@@ -100,6 +99,21 @@ fn new_book(alloc: Global, ranks: u8) -> Option<Book<MemStore>>
     }
 }
 
+/// Whether a book is known to have opened with the empty tree: it keeps the tree that it opened with, and that is empty.
+#[tactic(auto, using(crate::proofs::GoesOnLaws::opens_empty_of))]
+pub fn opens_empty<S: Store + Drop>(alloc: Global, book: &Book<S>) -> bool
+    ensures { IsTrue result → OpensEmpty book.now }
+{
+    book.is_sound();
+    let empty = PlainTree::new(alloc);
+    let is_empty = match book.opening() {
+        Some(tree) => tree.eq(&empty),
+        None => false,
+    };
+    drop(empty);
+    is_empty
+}
+
 /// A load that was run, and the book that it left.
 #[derive(Drop)]
 pub struct Served<S: Keep + Drop> {
@@ -107,8 +121,9 @@ pub struct Served<S: Keep + Drop> {
     pub ended: Result<(), ServeFault>,
 }
 
-/// Runs a load as `run_watched` does, over a book of as many ranks that opened with the empty tree. Whatever the outcome,
-/// the book that it hands back opened with that tree, and its history begins with that from before.
+/// Runs a load as `run_watched` does, over a book of as many ranks that opened with the empty tree. Before the threads
+/// start the book forgets what no client may repeat. Whatever the outcome, the book that it hands back opened with that
+/// tree, and its whole history begins with that from before.
 pub fn run_over_book<W, S, R, G>(
     rt: &R,
     writer: &mut W,
@@ -122,7 +137,7 @@ where
     R: Threads + Wait + Sync + AllocGlobal,
     G: Gate,
     requires load { IsLoad load.ranks load.workers load.clients load.creates }
-    requires opening { book.opening ≡ map.empty }
+    requires opening { OpensEmpty book }
     ensures served { ServesOut (W.contents writer.old) (W.contents writer.new) result.ended }
     ensures left { BookGrows book result.book }
 {
@@ -156,7 +171,7 @@ where
     R: Threads + Wait + Sync + AllocGlobal,
     G: Gate,
     requires load { IsLoad load.ranks load.workers load.clients load.creates }
-    requires opening { book.opening ≡ map.empty }
+    requires opening { OpensEmpty book }
     ensures ok { IfOk result.gave (λ p. IsText p.agrees p.text.items) }
     ensures err { IfErr result.gave (λ number. (number ≡ 1) ⊎ (number ≡ 2)) }
     ensures left { BookGrows book result.book }
@@ -169,6 +184,8 @@ where
             gave: Err(RunFault::NoMemory.number()),
         };
     };
+    // no entry goes that a receipt of the run may be of
+    forget_passed(&mut book);
     match run_cluster(rt, alloc, book, plans, load.workers, gate) {
         Ok(Outcome { book, .. }) => reported(alloc, book, true),
         Err(RunError { fault, book }) => failed(alloc, book, fault),
@@ -191,8 +208,7 @@ fn planned<S: Keep + Drop>(alloc: Global, book: &mut Book<S>, load: Load) -> Opt
 // word.
 #[tactic(auto, using(crate::proofs::GoesOnLaws::goes_on_here, crate::proofs::GoesOnLaws::goes_on_past, crate::proofs::GoesOnLaws::goes_on_run))]
 fn failed<S: Keep + Drop>(alloc: Global, book: Book<S>, fault: RunFault) -> Loaded<S>
-    requires sound { IsSoundBook book }
-    requires opening { book.opening ≡ map.empty }
+    requires opening { OpensEmpty book }
     ensures ok { IfOk result.gave (λ p. IsText p.agrees p.text.items) }
     ensures strayed { IfOk result.gave (λ p. p.agrees ≡ false) }
     ensures err { IfErr result.gave (λ number. (number ≡ 1) ⊎ (number ≡ 2)) }
@@ -210,8 +226,7 @@ fn failed<S: Keep + Drop>(alloc: Global, book: Book<S>, fault: RunFault) -> Load
 // What a run prints.
 #[tactic(auto, using(crate::proofs::GoesOnLaws::goes_on_here, crate::proofs::GoesOnLaws::goes_on_past, crate::proofs::GoesOnLaws::goes_on_run))]
 fn reported<S: Keep + Drop>(alloc: Global, book: Book<S>, agrees: bool) -> Loaded<S>
-    requires sound { IsSoundBook book }
-    requires opening { book.opening ≡ map.empty }
+    requires opening { OpensEmpty book }
     ensures ok { IfOk result.gave (λ p. IsText p.agrees p.text.items) }
     ensures agrees { IfOk result.gave (λ p. p.agrees ≡ agrees) }
     ensures err { IfErr result.gave (λ number. number ≡ 1) }

@@ -1,4 +1,4 @@
-//! A step of a load's book.
+//! A step of a load's book, and what it forgets.
 ghost use Rattle.admin_cli.specs.Left.{BookGrows};
 
 use cluster_core::{Answer, Book, Event};
@@ -16,4 +16,12 @@ pub(crate) fn step<S: Keep + Drop>(
     ensures { BookGrows book.old book.new }
 {
     book.step(alloc, event)
+}
+
+/// The book forgets what no client may repeat: no entry of which a reply may be handed out again. So it goes on.
+#[tactic(auto, using(crate::proofs::GoesOnLaws::goes_on_forgot))]
+pub(crate) fn forget_passed<S: Keep + Drop>(book: &mut Book<S>)
+    ensures { BookGrows book.old book.new }
+{
+    let _ = book.forget_passed();
 }

@@ -20,6 +20,6 @@ returns-clause-leaves g c = record {
 
 pub returns-clause-left : goal.returns-clause-left
 returns-clause-left g c =
-    let its = returns-clause-leaves g c in
-    subst (λ b. LeavesOneThread c.args.book b (g.R.Read.remaining c.args.reader) (g.W.Write.contents c.args.writer.now) (g.W.Write.contents c.run_input-ended.new.writer) c.run_input-ended.result)
-    (sym its.book_is) (leaves_over (DoesUnder c.args.mode) (carries_as_one c.args.mode) c.args.book c.is_sound.ensures its.admin _ _ _ _ its.leaves)
+    let its = returns-clause-leaves g c in λ opening past given.
+    subst (λ b. LeavesOneThread opening past c.args.book b (g.R.Read.remaining c.args.reader) (g.W.Write.contents c.args.writer.now) (g.W.Write.contents c.run_input-ended.new.writer) c.run_input-ended.result)
+    (sym its.book_is) (leaves_over (DoesUnder c.args.mode) (carries_as_one c.args.mode) c.args.book c.is_sound.ensures its.admin _ _ _ _ its.leaves opening past given)

@@ -1,4 +1,4 @@
-use Rattle.asking.proofs.Common.{arith}
+use Rattle.asking.proofs.Common.{arith, ◌++◌}
 use Rattle.asking.proofs.LoopLaws.{found_at, none_at_16, none_more}
 use Rattle.asking.proofs.drains.lowest.Goals as goal
 
@@ -9,4 +9,6 @@ pub loop-rank-preserved : goal.loop-rank-preserved
 loop-rank-preserved g c = none_more c.args.book.now.core c.cluster.result.now c.cluster.ensures.cluster c.loop-rank.rank c.in_default.ensures c.loop-rank.invariant
 
 pub returns : goal.returns
-returns g c = none_at_16 c.args.book.now.opening c.args.book.now.history c.args.book.now.core c.is_sound.ensures c.loop-rank.rank (omega (arith, c.loop-rank-test.false)) c.loop-rank.invariant
+returns g c =
+    let known = c.is_sound.ensures in
+    none_at_16 known.0 (known.1 ++ c.args.book.now.history) c.args.book.now.core known.2.behind.sound c.loop-rank.rank (omega (arith, c.loop-rank-test.false)) c.loop-rank.invariant

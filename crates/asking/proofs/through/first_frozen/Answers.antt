@@ -1,4 +1,4 @@
-use Rattle.asking.proofs.Common.{Core, ap, arith, subst, ◌∙◌}
+use Rattle.asking.proofs.Common.{Core, ap, arith, subst, whole_of, ◌∙◌}
 use Rattle.export_steps.specs.Standing.{Standing}
 use Rattle.asking.specs.Ending.{NoneFreezingOf}
 use Rattle.asking.proofs.ThroughLaws.{none_at_all, none_more}
@@ -10,4 +10,6 @@ loop-rank-preserved g c =
     (subst (λ (m : Standing). NoneFreezingOf m (record { 0 = c.loop-rank.rank })) (c.exports.ensures ∙ ap (λ (k : Core). k.state.exports) c.cluster.ensures.cluster) c.in_default.ensures)
 
 pub returns : goal.returns
-returns g c = none_at_all c.args.book.now c.is_sound.ensures c.loop-rank.rank (omega (arith, c.loop-rank-test.false)) c.loop-rank.invariant
+returns g c =
+    let known = c.is_sound.ensures in
+    none_at_all (whole_of known.0 known.1 c.args.book.now) known.2.behind.sound c.loop-rank.rank (omega (arith, c.loop-rank-test.false)) c.loop-rank.invariant

@@ -3,4 +3,4 @@ use Rattle.std.proofs.Common.{inr, refl}
 use Rattle.rank_threads.proofs.ranks.hand_on.Goals as goal
 
 pub returns-then-is_err : goal.returns-then-is_err
-returns-then-is_err g c = inr (refl, c.give_up.ensures.0, (c.deref_mut.result.now.book, c.give_up.new.self.book, c.give_up.ensures.1))
+returns-then-is_err g c = inr (refl, c.give_up.ensures.0, c.give_up.ensures.1)

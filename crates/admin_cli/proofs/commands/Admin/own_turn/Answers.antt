@@ -1,4 +1,4 @@
-use Rattle.admin_cli.proofs.Common.{AllocError, Err, Event, IfOk, BookState, MakesStep, Ok, Option, OutputLine, Proposes, Result, Some, TakesTurn, subst}
+use Rattle.admin_cli.proofs.Common.{AllocError, Err, Event, IfOk, KeptState, MakesStep, Ok, Option, OutputLine, Proposes, Result, Some, TakesTurn, subst}
 use Rattle.cluster_core.proofs.OwnLaws.{own_step}
 use Rattle.admin_cli.specs.Admin.{seen}
 use Rattle.admin_cli.proofs.commands.Admin.own_turn.Goals as goal
@@ -18,5 +18,5 @@ returns-in-Ok-Some-clause-line g c = go c.own_step.result c.own_step.ensures.lin
     go (Ok line) made = record {
       found = Ok (Some c.in-Ok-Some.event);
       proposed = proposed;
-      done = subst (λ (b : BookState). MakesStep (record (seen c.args.self.now) { book = b }) (seen c.own_step.new.self) c.in-Ok-Some.event line) c.propose.ensures.same made;
+      done = subst (λ (b : KeptState). MakesStep (record (seen c.args.self.now) { book = b }) (seen c.own_step.new.self) c.in-Ok-Some.event line) c.propose.ensures.same made;
     }
