@@ -1,8 +1,15 @@
 -- Where nothing waits, nothing waits after a step that brings no request.
-use Rattle.asking.proofs.Common.{Entry, Inboxes, KeptState, List, Receipt, Refusal, Request, Result, State, Tree, [], ap, append-nil, arith, inl, inr, length, refl, subst, ℕ, ◌++◌, ◌<◌, ◌∙◌, ◌∷◌, ◌≡◌}
+use Rattle.asking.proofs.Common.{Entry, Inboxes, KeptState, List, Receipt, Refusal, Request, Result, State, Tree, StandsInHistory, [], ap, append-nil, arith, inl, inr, length, receipt_in, refl, subst, sym, ℕ, ◌++◌, ◌<◌, ◌∙◌, ◌∷◌, ◌≡◌}
+use Rattle.std.specs.Prelude.{IfOk, take}
 use Rattle.std.specs.List.{AllByRecursion, Contains}
+use Rattle.std.proofs.lemmas.List.{append_assoc, take-append-drop}
+use Rattle.cluster_core.specs.Forgetting.{Forgets}
+use Rattle.cluster_core.specs.Sound.{StandsBehind, IsSoundKept}
+use Rattle.cluster_core.specs.State.{places_of}
+use Rattle.cluster_core.proofs.Forgotten.{places_behind}
+use Rattle.asking.specs.Services.{GoesOnAsOne}
 use Rattle.cluster_core.specs.Flush.{Flushes}
-use Rattle.cluster_core.specs.OneThread.{IsOneThread, IsSent, waiting_in}
+use Rattle.cluster_core.specs.OneThread.{InOrder, IsOneThread, IsSent, waiting_in}
 use Rattle.asking.specs.Drain.{waiting_in_all}
 use Rattle.asking.proofs.OneLaws.{none_among}
 use Rattle.asking.proofs.AmongLaws.{none_from_all}
@@ -36,3 +43,30 @@ nothing_applied limit opening past now old came told none idle one =
 pub idle_flushed : (old new : KeptState) (result : Result (Unit {0}) Refusal) → Flushes old new result → waiting_in_all old.core.state.inboxes ≡ 0 → waiting_in_all new.core.state.inboxes ≡ 0
 idle_flushed old new result (inl hindered) idle = ap (λ (b : KeptState). waiting_in_all b.core.state.inboxes) hindered.left ∙ idle
 idle_flushed old new result (inr tried) idle = ap (λ (s : State). waiting_in_all s.inboxes) tried.kept.core.left ∙ idle
+
+-- ---- what is forgotten behind a request
+
+module _ (keep : ℕ) (mid new : KeptState) (forgets : Forgets keep mid new) where
+  whole : (past : List Entry) → (past ++ take forgets.count mid.history) ++ new.history ≡ past ++ mid.history
+  whole past =
+      append_assoc past (take forgets.count mid.history) new.history
+      ∙ ap (λ (l : List Entry). past ++ l) (ap (λ (l : List Entry). take forgets.count mid.history ++ l) forgets.left ∙ take-append-drop forgets.count mid.history)
+
+  -- what was one thread is so with what is forgotten now
+  pub goes_on_as_one : (opening : Tree) (past : List Entry) (old : KeptState) (sent : List Request) (result : Result Receipt Refusal) → StandsBehind opening past mid
+      → IsOneThread old.core.state.tree.limit opening (past ++ old.history) (past ++ mid.history) sent (receipt_in result)
+      → IfOk result (λ receipt. StandsInHistory (past ++ mid.history) receipt.client receipt.tid receipt.place receipt.reply) → GoesOnAsOne opening past old new sent result
+  goes_on_as_one opening past old sent result behind one stands = record {
+    forgotten = past ++ take forgets.count mid.history;
+    behind = forgets.goes_on opening past behind;
+    one = subst (λ (h : List Entry). IsOneThread old.core.state.tree.limit opening (past ++ old.history) h sent (receipt_in result)) (sym (whole past)) one;
+    stands = subst (λ (h : List Entry). IfOk result (λ receipt. StandsInHistory h receipt.client receipt.tid receipt.place receipt.reply)) (sym (whole past)) stands;
+  }
+
+  -- no place changes
+  pub places_stay : IsSoundKept mid → places_of new ≡ places_of mid
+  places_stay (opening, past, behind) =
+      sym (places_behind opening (past ++ take forgets.count mid.history) new (forgets.goes_on opening past behind)) ∙ ap (λ (l : List Entry). length l) (whole past) ∙ places_behind opening past mid behind
+
+  pub ordered_still : IsSoundKept mid → (from : ℕ) (told : List Receipt) → InOrder from told (places_of mid) → InOrder from told (places_of new)
+  ordered_still sound from told ordered = subst (InOrder from told) (sym (places_stay sound)) ordered

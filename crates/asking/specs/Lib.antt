@@ -6,4 +6,5 @@ pub mod GrantsAll
 pub mod Once
 pub mod Reached
 pub mod Serves
+pub mod Services
 pub mod Through

@@ -1,14 +1,12 @@
 //! A book to ask, and nothing else: whatever was asked, nothing is left waiting.
-ghost use Rattle.std.specs.Prelude.{◌≡◌, ◌≢◌, ◌<◌, ◌≤◌, ◌-◌, ◌++◌, ◌∷◌, [], List, None, length, drop, take, Err, IfErr, IfOk, MatchResult, OnOk};
-ghost use Rattle.std.specs.List.{slice_index_or};
+ghost use Rattle.std.specs.Prelude.{◌≡◌, ◌≢◌, ◌++◌, ◌∷◌, [], List, None, Err, IfErr, IfOk, MatchResult, OnOk};
 ghost use Rattle.std.specs.FinMap as map;
 ghost use Rattle.mds_types.specs.Tree.{Tree};
 ghost use Rattle.mds_types.specs.declared.entries.Entry.{Entry as Applied};
-ghost use Rattle.sessions.specs.Aside.{StopsForgetting, forget_all};
 ghost use Rattle.cluster_core.specs.Flush.{Flushes, IsColdTree};
 ghost use Rattle.cluster_core.specs.OneThread.{InOrder, IsOneThread, StandsInHistory, arrival};
 ghost use Rattle.cluster_core.specs.Sound.{StandsBehind, IsSoundKept};
-ghost use Rattle.cluster_core.specs.State.{places_of, shown, whole_of, with_sessions};
+ghost use Rattle.cluster_core.specs.State.{places_of, shown};
 ghost use Rattle.cluster_core.specs.Steps.{Steps};
 ghost use Rattle.cluster_core.specs.Uses.{UsesStep};
 ghost use Rattle.asking.specs.Ask.{NoneWaits};
@@ -16,7 +14,8 @@ ghost use Rattle.asking.specs.Ending.{HasAllBytes};
 ghost use Rattle.asking.specs.Drain.{waiting_in_all};
 ghost use Rattle.asking.specs.Once.{AsksOnce, Leaves};
 ghost use Rattle.asking.specs.Reached.{receipt_in};
-ghost use Rattle.asking.specs.Through.{AsksThrough, CantSend};
+ghost use Rattle.asking.specs.Services.{AsksAndForgets, AsksThroughAndForgets, GoesOnAsOne};
+ghost use Rattle.asking.specs.Through.{CantSend};
 
 use crate::asks::ask;
 use crate::drains::lowest;
@@ -82,24 +81,40 @@ fn leave<S: Store + Drop>(book: &mut Book<S>)
     }
 }
 
-/// A book that is asked, in which nothing waits between two requests: so that each may be. A service forgets nothing by
-/// itself: it keeps an entry for each change that was ever asked of it. Who asks for long calls `drop_opening` once, where
-/// nobody reads the opening tree, and `forget` between two requests, with the number of entries that are to stay.
+// How many entries of a history stay, where nothing else is said.
+const STAY: usize = 1000;
+
+/// A book that is asked, in which nothing waits between two requests: so that each may be. Behind each request it forgets
+/// all but the last entries of the history, so its memory is bounded by the tree, the clients and how many stay.
 #[derive(Drop)]
 pub struct Service<S: Store + Drop> {
     book: Book<S>,
+    /// How many of the last entries stay; fewer than twice as many are there between two requests.
+    history: usize,
     ghost idle: { waiting_in_all book.core.state.inboxes ≡ 0 },
 }
 
 impl<S: Store + Drop> Service<S> {
-    /// A service over a book, handed back where something waits in it.
+    /// A service over a book, of whose history 1,000 entries stay. The book is handed back where something waits in it.
     pub fn of(book: Book<S>) -> Result<Service<S>, Book<S>>
-        ensures { MatchResult result (λ service. service.book ≡ book) (λ back. back ≡ book) }
+        ensures of { MatchResult result (λ service. service.book ≡ book) (λ back. back ≡ book) }
+        ensures history { IfOk result (λ service. service.history ≡ 1000) }
     {
         match lowest(&book) {
             Some(_) => Err(book),
-            None => Ok(Service { book }),
+            None => Ok(Service {
+                book,
+                history: STAY,
+            }),
         }
+    }
+
+    /// From now on so many of the last entries of the history stay: with `usize::MAX` all of them.
+    pub fn set_history(&mut self, count: usize)
+        ensures book { self.new.book ≡ self.old.book }
+        ensures history { self.new.history ≡ count }
+    {
+        self.history = count;
     }
 
     /// The book, to read.
@@ -122,44 +137,6 @@ impl<S: Store + Drop> Service<S> {
         ensures { result ≡ places_of self.now.book }
     {
         self.book.places()
-    }
-
-    /// Forgets the history but for so many of its last entries, as `Book::forget` does: it does nothing before twice as
-    /// many are there, so it may be called after each request, at constant work an entry. No answer to a later request
-    /// tells that entries are forgotten.
-    pub fn forget(&mut self, keep: usize) -> usize
-        ensures few { result ≤ length self.old.book.history - keep }
-        ensures waits { length self.old.book.history - keep < keep → result ≡ 0 }
-        ensures stops { (e : Applied) → keep ≤ length self.old.book.history - keep
-            → result < length self.old.book.history - keep
-            → StopsForgetting self.new.book.core.state.sessions (slice_index_or self.old.book.history result e) }
-        ensures left { self.new.book.history ≡ drop result self.old.book.history }
-        ensures core { self.new.book.core ≡ with_sessions self.old.book.core
-            (forget_all self.old.book.core.state.sessions (take result self.old.book.history)) }
-        ensures nothing { result ≡ 0 → self.new.book ≡ self.old.book }
-        ensures opening { 0 < result → self.new.book.opening ≡ None }
-        ensures goes_on { (opening : Tree) (past : List Applied) → StandsBehind opening past self.old.book
-            → StandsBehind opening (past ++ take result self.old.book.history) self.new.book }
-    {
-        self.book.forget(keep)
-    }
-
-    /// Forgets the beginning of the history of which no reply is kept for a client, as `Book::forget_passed` does. It
-    /// takes no memory, and moves the entries that stay: so it is called now and then, not after each request.
-    pub fn forget_passed(&mut self) -> usize
-        ensures few { result ≤ length self.old.book.history }
-        ensures stops { (e : Applied) → result < length self.old.book.history
-            → StopsForgetting self.new.book.core.state.sessions (slice_index_or self.old.book.history result e) }
-        ensures left { self.new.book.history ≡ drop result self.old.book.history }
-        ensures stays { self.new.book.core.state.sessions.rows ≡ self.old.book.core.state.sessions.rows }
-        ensures core { self.new.book.core ≡ with_sessions self.old.book.core
-            (forget_all self.old.book.core.state.sessions (take result self.old.book.history)) }
-        ensures nothing { result ≡ 0 → self.new.book ≡ self.old.book }
-        ensures opening { 0 < result → self.new.book.opening ≡ None }
-        ensures goes_on { (opening : Tree) (past : List Applied) → StandsBehind opening past self.old.book
-            → StandsBehind opening (past ++ take result self.old.book.history) self.new.book }
-    {
-        self.book.forget_passed()
     }
 
     /// The tree that the book opened with is no longer kept, as `Book::drop_opening` says: no request needs it.
@@ -206,22 +183,16 @@ impl<S: Store + Drop> Service<S> {
     #[inline(always)]
     pub fn ask(&mut self, alloc: Global, rank: Rank, request: Request) -> Result<Receipt, Refusal>
         ensures one_thread { (opening : Tree) (past : List Applied) → StandsBehind opening past self.old.book
-            → IsOneThread self.old.book.core.state.tree.limit opening (past ++ self.old.book.history)
-            (past ++ self.new.book.history) (request ∷ []) (receipt_in result) }
+            → GoesOnAsOne opening past self.old.book self.new.book (request ∷ []) result }
         ensures in_order { InOrder (places_of self.old.book) (receipt_in result) (places_of self.new.book) }
-        ensures asked { (opening : Tree) (past : List Applied) → StandsBehind opening past self.old.book
-            → AsksOnce self.old.book.core self.new.book.core (past ++ self.old.book.history)
-            (past ++ self.new.book.history) rank request result }
+        ensures asked { AsksAndForgets self.old.history self.old.book self.new.book rank request result }
         ensures thawed { self.old.book.core.state.exports ≡ map.empty → result ≢ Err Refusal.Frozen }
-        ensures stands { (opening : Tree) (past : List Applied) → StandsBehind opening past self.old.book → IfOk result
-            (λ receipt. StandsInHistory (past ++ self.new.book.history) receipt.client receipt.tid receipt.place
-            receipt.reply) }
         ensures limit { self.new.book.core.state.tree.limit ≡ self.old.book.core.state.tree.limit }
-        ensures goes_on { (opening : Tree) (past : List Applied) → StandsBehind opening past self.old.book
-            → StandsBehind opening past self.new.book }
-        ensures opening { self.new.book.opening ≡ self.old.book.opening }
+        ensures history { self.new.history ≡ self.old.history }
     {
-        ask_once(alloc, &mut self.book, rank, request)
+        let answer = ask_once(alloc, &mut self.book, rank, request);
+        let _ = self.book.forget(self.history);
+        answer
     }
 
     /// A request comes in at a rank, and gets its answer, where exports that keep it from that are brought to their end, as
@@ -235,23 +206,18 @@ impl<S: Store + Drop> Service<S> {
         cancel: bool,
     ) -> Result<Receipt, Refusal>
         ensures one_thread { (opening : Tree) (past : List Applied) → StandsBehind opening past self.old.book
-            → IsOneThread self.old.book.core.state.tree.limit opening (past ++ self.old.book.history)
-            (past ++ self.new.book.history) (request ∷ []) (receipt_in result) }
+            → GoesOnAsOne opening past self.old.book self.new.book (request ∷ []) result }
         ensures in_order { InOrder (places_of self.old.book) (receipt_in result) (places_of self.new.book) }
-        ensures asked { (opening : Tree) (past : List Applied) → StandsBehind opening past self.old.book
-            → AsksThrough cancel rank request (whole_of opening past self.old.book) (whole_of opening past self.new.book)
-            kept.old kept.new result }
+        ensures asked { AsksThroughAndForgets cancel self.old.history rank request self.old.book self.new.book kept.old
+            kept.new result }
         ensures thawed { HasAllBytes self.old.book.core.state kept.old → result ≡ Err Refusal.Frozen
             → CantSend cancel self.new.book.core.state }
-        ensures stands { (opening : Tree) (past : List Applied) → StandsBehind opening past self.old.book → IfOk result
-            (λ receipt. StandsInHistory (past ++ self.new.book.history) receipt.client receipt.tid receipt.place
-            receipt.reply) }
         ensures limit { self.new.book.core.state.tree.limit ≡ self.old.book.core.state.tree.limit }
-        ensures goes_on { (opening : Tree) (past : List Applied) → StandsBehind opening past self.old.book
-            → StandsBehind opening past self.new.book }
-        ensures opening { self.new.book.opening ≡ self.old.book.opening }
+        ensures history { self.new.history ≡ self.old.history }
     {
-        ask_through(alloc, &mut self.book, kept, rank, request, cancel)
+        let answer = ask_through(alloc, &mut self.book, kept, rank, request, cancel);
+        let _ = self.book.forget(self.history);
+        answer
     }
 }
 
