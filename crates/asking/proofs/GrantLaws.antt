@@ -1,5 +1,5 @@
 -- What a grant gives, and those of all ranks one after the other.
-use Rattle.asking.proofs.Common.{Answer, Bool, Contains, Core, Entry, Err, Frozen, Grant, Grants, GrantsEach, GrantsFirst, GrantsOf, GrantsRequest, GrantsSo, GrantsThem, GrantsWaiting, IsAuthority, IsFrozenAt, IsGranted, IsSound, KeepsUnclean, Leaf, List, MatchBool, NoInodes, NoMemory, NotAuthority, NothingToEvict, Ok, Op, Pin, Rank, ReadsOp, Refusal, RefusesGrant, Request, Result, Some, State, Steps, StoreFault, Tree, TreeMayRefuse, UsesStep, WhyNotGranted, ap, arith, false, first_waiting, grant_of, held_roots, inl, inr, is_for, is_pin, left_without, length, list_any, nat_lt, refl, subst, sym, true, with_grants, would_change, ℕ, ◌+◌, ◌<◌, ◌∙◌, ◌≡◌, ◌≢◌, ◌⊎◌}
+use Rattle.asking.proofs.Common.{None, KeepsButGrants, Option, Answer, Bool, Contains, Core, Entry, Err, Frozen, Grant, Grants, GrantsEach, GrantsFirst, GrantsOf, GrantsRequest, GrantsSo, GrantsThem, GrantsWaiting, IsAuthority, IsFrozenAt, IsGranted, IsSound, KeepsUnclean, Leaf, List, MatchBool, NoInodes, NoMemory, NotAuthority, NothingToEvict, Ok, Op, Pin, Rank, ReadsOp, Refusal, RefusesGrant, Request, Result, Some, State, Steps, StoreFault, Tree, TreeMayRefuse, UsesStep, WhyNotGranted, ap, arith, false, first_waiting, grant_of, held_roots, inl, inr, is_for, is_pin, left_without, length, list_any, nat_lt, refl, subst, sym, true, with_grants, would_change, ℕ, ◌+◌, ◌<◌, ◌∙◌, ◌≡◌, ◌≢◌, ◌⊎◌}
 use Rattle.std.proofs.lemmas.Bool.{cases_lt, lt-ltb}
 use Rattle.cluster_core.specs.Uses.{UsesWaiting}
 use Rattle.asking.proofs.LiveLaws.{change_ruled, is_one_of_16, is_rank}
@@ -106,7 +106,24 @@ module _ (old new : Core) (past now : List Entry) (rank : Rank) (client tid : �
           by_err : ◌≡◌ {A = Result Answer Refusal} (Err reason) (Err NotAuthority) → reason ≡ NotAuthority
           by_err clash = cc
 
+-- a grant leaves the history
+pub history_left : (old new : Core) (past now : List Entry) (rank : Rank) (client tid : ℕ) (result : Result Answer Refusal) → Steps old new past now result (Grant rank client tid) → now ≡ past
+history_left old new past now rank client tid result steps = go (nat_lt rank.0 (length old.state.inboxes)) steps.does
+  where
+    by_found : (r : Result Answer Refusal) (found : Option Request) → GrantsFirst old.state new.state past now (TreeMayRefuse old new) rank client tid r found → now ≡ past
+    by_found r None h = h.1.same
+    by_found (Ok answer) (Some request) h = h.same
+    by_found (Err reason) (Some request) h = h.1.same
+
+    go : (b : Bool) → MatchBool b (GrantsWaiting old.state new.state past now (TreeMayRefuse old new) rank client tid result) ((result ≡ Err NotAuthority) × (new ≡ old) × (now ≡ past)) → now ≡ past
+    go true h = by_found result (first_waiting client tid old.state.inboxes) h
+    go false h = h.2
+
 -- ---- one rank after the other
+
+-- what waits waits on
+pub waits_still : (old mid : Core) (client tid : ℕ) (request : Request) → KeepsButGrants old.state mid.state client tid → first_waiting client tid old.state.inboxes ≡ Some request → first_waiting client tid mid.state.inboxes ≡ Some request
+waits_still old mid client tid request kept waits = ap (λ (s : State). first_waiting client tid s.inboxes) kept.left ∙ waits
 
 -- those of the ranks below a number
 abbrev pub Below : ℕ → Rank → Type 0

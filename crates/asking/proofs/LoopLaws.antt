@@ -48,6 +48,10 @@ serves_exports old new past now MayRefuse rank request rest (Err reason) (inr (i
 serves_exports old new past now MayRefuse rank request rest (Err reason) (inr (inr (inr (inl h)))) = ap (λ (s : State). s.exports) h.2.left
 serves_exports old new past now MayRefuse rank request rest (Err reason) (inr (inr (inr (inr h)))) = ap (λ (s : State). s.exports) h.3.left
 
+-- where grants were refused too
+pub exports_granted : (old mid : Core) (client tid : ℕ) (op : Op) (reason : Refusal) → GrantsEach old mid client tid op (Err reason) → mid.state.exports ≡ old.state.exports
+exports_granted old mid client tid op reason (kept, why) = ap (λ (s : State). s.exports) kept.left
+
 -- ---- the lowest rank where something waits
 
 pub front_none : (w : List Request) → slice_get w 0 ≡ None → w ≡ []

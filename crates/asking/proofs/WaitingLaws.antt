@@ -1,5 +1,5 @@
 -- What ranks did that served and granted alone.
-use Rattle.asking.proofs.Common.{Answer, Arrive, Bool, BookState, MatchBool, false, true, Entry, Event, Grant, IsBroughtBy, IsSoundBook, IsStepFor, LeadsTo, List, Option, Rank, Receipt, Refusal, Request, Result, Serve, Steps, Tree, UsesStep, [], ap, append-nil, length, receipt_in, refl, subst, sym, ℕ, ◌++◌, ◌+◌, ◌∙◌, ◌∷◌, ◌≡◌}
+use Rattle.asking.proofs.Common.{Answer, Arrive, Bool, BookState, MatchBool, false, true, Entry, Event, Grant, IsBroughtBy, IsSoundBook, IsStepFor, LeadsTo, List, Option, Rank, Receipt, Refusal, Request, Result, Serve, Steps, Tree, UsesStep, [], ap, append-nil, receipt_in, refl, subst, sym, ℕ, ◌++◌, ◌+◌, ◌∙◌, ◌∷◌, ◌≡◌}
 use Rattle.std.specs.List.{AllByRecursion}
 use Rattle.std.proofs.lemmas.List.Concat.{flat_map-append}
 use Rattle.std.proofs.lemmas.List.Elements.{Contains-append_left}
@@ -54,6 +54,9 @@ TellsMore old new before after = (replies : List Receipt) × (after ≡ before +
 
 pub tells_none : (book : BookState) (before after : List Receipt) → after ≡ before → TellsMore book book before after
 tells_none book before after same = ([], same ∙ sym (append-nil before), served_none book)
+
+pub tells_more : (old new : BookState) (before room after told : List Receipt) → room ≡ before → after ≡ room ++ told → ServesWaiting old new told → TellsMore old new before after
+tells_more old new before room after told same is served = (told, is ∙ ap (λ (rs : List Receipt). rs ++ told) same, served)
 
 pub tells_on : (first old new : BookState) (before after : List Receipt) → ServesWaiting first old before → TellsMore old new before after → ServesWaiting first new after
 tells_on first old new before after served more = subst (λ (rs : List Receipt). ServesWaiting first new rs) (sym more.1) (served_then first old new before more.0 served more.2)

@@ -1,4 +1,4 @@
-use Rattle.asking.proofs.Common.{BookState, Entry, Err, Goes, HasComeBehind, IsNewAtMaster, KeptState, List, None, Nothing, Ok, Receipt, Replied, Serve, Some, StandsBehind, Steps, Tree, UsesStep, Waits, [], ℕ, arith, receipt_in, refl, subst, sym, whole_of, ◌++◌, ◌≡◌, ◌∷◌}
+use Rattle.asking.proofs.Common.{BookState, Entry, Err, Goes, HasComeBehind, IsNewAtMaster, KeptState, List, None, Nothing, Ok, Receipt, Replied, Serve, Some, StandsBehind, Steps, UsesStep, Waits, [], ℕ, arith, receipt_in, refl, subst, sym, whole_of, ◌++◌, ◌≡◌, ◌∷◌}
 use Rattle.std.specs.Result.{result_err}
 use Rattle.cluster_core.specs.declared.events.Answer.{Answer}
 use Rattle.mds_types.specs.declared.ids.Rank.{Rank}

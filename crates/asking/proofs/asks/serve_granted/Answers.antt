@@ -1,4 +1,4 @@
-use Rattle.asking.proofs.Common.{Entry, Goes, GrantsThem, HasCome, HasComeBehind, IsSoundKept, KeptState, List, None, Question, Replied, Some, Waits, [], ap, arith, whole_of, ◌++◌, ◌≡◌, ◌∷◌}
+use Rattle.asking.proofs.Common.{Entry, Goes, GrantsThem, HasCome, HasComeBehind, KeptState, List, None, Question, Replied, Some, Waits, [], ap, arith, whole_of, ◌++◌, ◌≡◌, ◌∷◌}
 use Rattle.mds_types.specs.declared.ids.Rank.{Rank}
 use Rattle.asking.proofs.AnswerLaws.{front, granted, is_waiting, needs_no_wait, never_again, not_granted, refused, replied, told_so}
 use Rattle.asking.proofs.ReachedLaws.{leads_served, leads_then, leads_within}

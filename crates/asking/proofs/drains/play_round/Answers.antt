@@ -1,7 +1,7 @@
-use Rattle.asking.proofs.Common.{Bool, Entry, Err, List, None, Ok, Receipt, RoundEnds, Some, State, [], ap, append-nil, arith, inl, refl, rules, subst, sym, whole_of, ◌++◌, ◌∙◌, ◌≡◌}
+use Rattle.asking.proofs.Common.{Bool, Entry, Err, List, None, Ok, Receipt, RoundEnds, Some, [], ap, append-nil, arith, inl, refl, rules, subst, sym, whole_of, ◌++◌}
 use Rattle.cluster_core.specs.OneThread.{receipt_of}
-use Rattle.asking.proofs.WaitingLaws.{served_by, served_once, served_then, tells_none}
-use Rattle.asking.proofs.LoopLaws.{ended, exports_stand, gives, is_first, not_granted, refused, served_on}
+use Rattle.asking.proofs.WaitingLaws.{served_by, served_once, served_then, tells_more, tells_none}
+use Rattle.asking.proofs.LoopLaws.{ended, exports_granted, exports_stand, gives, is_first, not_granted, refused, served_on}
 use Rattle.asking.proofs.drains.play_round.Goals as goal
 
 pub returns-in-Err-clause-ends : goal.returns-in-Err-clause-ends
@@ -15,7 +15,8 @@ pub returns-in-Err-clause-exports : goal.returns-in-Err-clause-exports
 returns-in-Err-clause-exports g c =
     let known = c.is_sound.ensures in
     let found = c.requires.lowest in
-    ap (λ (s : State). s.exports) (c.in-Err.ensures.granted found.request (is_first (whole_of known.0 known.1 c.args.book.now) known.2.behind.sound c.requires.few c.args.found found)).0.left
+    exports_granted c.args.book.now.core c.grant_all.new.book.core c.args.found.client c.args.found.tid found.request.op c.in-Err.refusal
+    (c.in-Err.ensures.granted found.request (is_first (whole_of known.0 known.1 c.args.book.now) known.2.behind.sound c.requires.few c.args.found found))
 
 pub returns-in-Ok-clause-ends : goal.returns-in-Ok-clause-ends
 returns-in-Ok-clause-ends g c =
@@ -85,11 +86,10 @@ returns-then-is_err-clause-served g c opening past given = tells_none (whole_of 
 
 pub returns-in-Err-clause-served : goal.returns-in-Err-clause-served
 returns-in-Err-clause-served g c opening past given =
-    let same : c.reserve.new.self.items ≡ c.args.receipts.now.items = search rules in (
-      [],
-      same ∙ sym (append-nil c.args.receipts.now.items),
-      served_by c.args.found.client c.args.found.tid 16 [] (Some c.in-Err.refusal) (whole_of opening past c.args.book.now) (whole_of opening past c.grant_all.new.book) (c.in-Err.ensures.reached opening past given),
-    )
+    let old = whole_of opening past c.args.book.now in
+    let mid = whole_of opening past c.grant_all.new.book in
+    tells_more old mid c.args.receipts.now.items c.reserve.new.self.items c.reserve.new.self.items [] (search rules) (sym (append-nil c.reserve.new.self.items))
+    (served_by c.args.found.client c.args.found.tid 16 [] (Some c.in-Err.refusal) old mid (c.in-Err.ensures.reached opening past given))
 
 pub returns-in-Ok-clause-served : goal.returns-in-Ok-clause-served
 returns-in-Ok-clause-served g c opening past given =
@@ -97,13 +97,10 @@ returns-in-Ok-clause-served g c opening past given =
     let mid = whole_of opening past c.grant_all.new.book in
     let new = whole_of opening past c.step.new.self in
     let on = c.in_default.ensures.goes_on opening past given in
-    let same : c.reserve.new.self.items ≡ c.args.receipts.now.items = search rules in
-    let told : List Receipt = receipt_of (Ok c.in-Ok.answer) in (
-      told,
-      c.note.ensures.told ∙ ap (λ (rs : List Receipt). rs ++ told) same,
-      served_then old mid new [] told (served_by c.args.found.client c.args.found.tid 16 [] None old mid (c.in_default.ensures.reached opening past given))
-          (served_once mid new c.args.found.rank (Ok c.in-Ok.answer) (c.in-Ok.ensures.stepped opening past on) c.in-Ok.ensures.uses refl (c.in-Ok.ensures.goes_on opening past on).behind.sound),
-    )
+    let told : List Receipt = receipt_of (Ok c.in-Ok.answer) in
+    tells_more old new c.args.receipts.now.items c.reserve.new.self.items c.note.new.receipts.items told (search rules) c.note.ensures.told
+    (served_then old mid new [] told (served_by c.args.found.client c.args.found.tid 16 [] None old mid (c.in_default.ensures.reached opening past given))
+    (served_once mid new c.args.found.rank (Ok c.in-Ok.answer) (c.in-Ok.ensures.stepped opening past on) c.in-Ok.ensures.uses refl (c.in-Ok.ensures.goes_on opening past on).behind.sound))
 
 pub returns-in-Err-step-clause-served : goal.returns-in-Err-step-clause-served
 returns-in-Err-step-clause-served g c opening past given =
@@ -111,9 +108,6 @@ returns-in-Err-step-clause-served g c opening past given =
     let mid = whole_of opening past c.grant_all.new.book in
     let new = whole_of opening past c.step.new.self in
     let on = c.in_default.ensures.goes_on opening past given in
-    let same : c.reserve.new.self.items ≡ c.args.receipts.now.items = search rules in (
-      [],
-      same ∙ sym (append-nil c.args.receipts.now.items),
-      served_then old mid new [] [] (served_by c.args.found.client c.args.found.tid 16 [] None old mid (c.in_default.ensures.reached opening past given))
-          (served_once mid new c.args.found.rank (Err c.in-Err-step.refusal) (c.in-Err-step.ensures.stepped opening past on) c.in-Err-step.ensures.uses refl (c.in-Err-step.ensures.goes_on opening past on).behind.sound),
-    )
+    tells_more old new c.args.receipts.now.items c.reserve.new.self.items c.reserve.new.self.items [] (search rules) (sym (append-nil c.reserve.new.self.items))
+    (served_then old mid new [] [] (served_by c.args.found.client c.args.found.tid 16 [] None old mid (c.in_default.ensures.reached opening past given))
+    (served_once mid new c.args.found.rank (Err c.in-Err-step.refusal) (c.in-Err-step.ensures.stepped opening past on) c.in-Err-step.ensures.uses refl (c.in-Err-step.ensures.goes_on opening past on).behind.sound))

@@ -3,7 +3,8 @@ use Rattle.std.specs.Prelude.{MatchResult, Some}
 use Rattle.std.specs.Result.{result_err}
 use Rattle.asking.specs.Reached.{LeadsTo}
 use Rattle.cluster_core.proofs.NoReplyLaws.{tells_none}
-use Rattle.asking.proofs.GrantLaws.{foreign, granted, not_granted}
+use Rattle.cluster_core.proofs.Forgotten.{behind_one}
+use Rattle.asking.proofs.GrantLaws.{foreign, granted, history_left, not_granted}
 use Rattle.asking.proofs.ReachedLaws.{leads_by, leads_quietly}
 use Rattle.asking.proofs.grants.grant_own.Goals as goal
 
@@ -50,3 +51,19 @@ returns-in-Err-clause-reached g c opening past given = go c.unless_foreign.resul
         → LeadsTo c.args.client c.args.tid [] 1 [] (result_err result) (whole_of opening past c.args.book.now) (whole_of opening past c.step.new.self)
     go (Ok done) is = leads_quietly c.args.client c.args.tid [] 1 [] (Some c.in-Err.refusal) (whole_of opening past c.args.book.now) (whole_of opening past c.step.new.self) one
     go (Err reason) (is, other) = subst (λ (r : Refusal). LeadsTo c.args.client c.args.tid [] 1 [] (Some r) (whole_of opening past c.args.book.now) (whole_of opening past c.step.new.self)) (sym is) one
+
+pub returns-in-Ok-clause-history : goal.returns-in-Ok-clause-history
+returns-in-Ok-clause-history g c =
+    let known = c.is_sound.ensures in
+    let old = whole_of known.0 known.1 c.args.book.now in
+    let new = whole_of known.0 known.1 c.step.new.self in
+    behind_one known.1 c.step.new.self.history c.args.book.now.history
+    (history_left old.core new.core old.history new.history c.args.rank c.args.client c.args.tid (Ok c.in-Ok.answer) (c.in-Ok.ensures.stepped known.0 known.1 known.2))
+
+pub returns-in-Err-clause-history : goal.returns-in-Err-clause-history
+returns-in-Err-clause-history g c =
+    let known = c.is_sound.ensures in
+    let old = whole_of known.0 known.1 c.args.book.now in
+    let new = whole_of known.0 known.1 c.step.new.self in
+    behind_one known.1 c.step.new.self.history c.args.book.now.history
+    (history_left old.core new.core old.history new.history c.args.rank c.args.client c.args.tid (Err c.in-Err.refusal) (c.in-Err.ensures.stepped known.0 known.1 known.2))

@@ -1,4 +1,4 @@
-use Rattle.asking.proofs.Common.{ap, length, whole_of, ◌∙◌}
+use Rattle.asking.proofs.Common.{whole_of, ◌∙◌}
 use Rattle.asking.proofs.OneLaws.{left_keeps_limit, places_still, refused_as_one}
 use Rattle.asking.proofs.OnceLaws.{kept_once, none_waits_once, once}
 use Rattle.asking.proofs.services.ask_once.Goals as goal
