@@ -1,19 +1,15 @@
 -- That a book goes on from an opening tree and a past is a fact with nothing to choose in it beside what each book keeps: where it is only kept that it
 -- holds, it is there to be used.
-use Rattle.rank_threads.proofs.Common.{Bool, Entry, IsSoundKept, KeptState, List, StandsBehind, StaysBehind, Tree, false, length, list_any, true, ℕ, ◌++◌, ◌<◌, ◌≡◌, ◌≤◌}
-use Rattle.std.specs.Prelude.{IfSome, None, Option, Some, get_or}
-use Rattle.std.specs.Coded.{Coded, Coded-set, coded_bool, coded_list, coded_option, coded_ℕ, codes, le_prop}
+use Rattle.rank_threads.proofs.Common.{Bool, Entry, IsSoundKept, KeptState, List, StandsBehind, StaysBehind, Tree, ℕ, ◌≡◌, ◌≤◌}
+use Rattle.std.specs.Prelude.{IfSome, None, Option, Some}
+use Rattle.std.specs.Coded.{codes, le_prop}
 use Rattle.std.specs.FinMap as map
-use Rattle.std.specs.List.{slice_index_or}
 use Rattle.std.proofs.Math.Logic.{∥∥₁_elim, ∥∥₁_map}
 use Rattle.mds_types.specs.declared.ids.Ino.{Ino}
 use Rattle.mds_types.specs.declared.replies.Reply.{Reply}
-use Rattle.mds_types.specs.History.{IsLawful, IsLegal, IsNext, IsPairAt, IsUsed, mark}
+use Rattle.mds_types.specs.History.{IsLawful, IsLegal, IsNext, IsPairAt}
 use Rattle.sessions.specs.Aside.{AreSetAside, IsAsideFor}
-use Rattle.sessions.specs.Table.{IsKeptFor, IsTableOf, Table, aside_in, kept_in}
-use Rattle.cluster_core.specs.Sound.{AreSupplied, IsFresh, IsSound, IsSoundBehind}
-use Rattle.cluster_core.specs.State.{Core}
-use Rattle.inode_table.specs.Numbers.{Supply}
+use Rattle.sessions.specs.Table.{IsKeptFor, IsTableOf, Table}
 
 -- a fact is there where it is kept that it holds
 abbrev Stable : Type 0 → Type 0

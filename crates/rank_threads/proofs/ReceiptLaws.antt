@@ -1,5 +1,5 @@
 -- Receipts, looked at from the last to the first.
-use Rattle.rank_threads.proofs.Common.{Agree, AllByRecursion, NoneTwice, Bool, Entry, Fits, IsHeld, IsHeldAmong, IsThere, List, Receipt, Stand, StandAmong, StandsInHistory, [], ap, arith, cond, drop, drop-length, drop_more, false, first_places, get_or, get_or-replicate, length, length-append, length-replicate, length-set, list_any, marked, nat_eq, refl, replicate, rules, set, subst, suc, sym, true, zero, ℕ, ◌++◌, ◌+◌, ◌-◌, ◌<◌, ◌||◌, ◌∙◌, ◌∷◌, ◌≡◌, ◌≤◌}
+use Rattle.rank_threads.proofs.Common.{Agree, AllByRecursion, NoneTwice, Bool, Entry, Fits, IsHeld, IsHeldAmong, IsThere, List, Receipt, Stand, StandAmong, [], ap, arith, cond, drop, drop-length, drop_more, false, first_places, get_or, get_or-replicate, length, length-append, length-replicate, length-set, list_any, marked, nat_eq, refl, replicate, rules, set, subst, suc, sym, true, zero, ℕ, ◌++◌, ◌+◌, ◌-◌, ◌<◌, ◌||◌, ◌∙◌, ◌∷◌, ◌≡◌, ◌≤◌}
 use Rattle.std.specs.Prelude.{IsTrue, ◌↔◌}
 use Rattle.std.proofs.lemmas.Bool.{eq-eqb, eqb-true, false≢true}
 use Rattle.std.proofs.Math.Seq.{get_or-append-add}

@@ -163,7 +163,7 @@ fn put(answers: &mut Vec<Answered>, newest: Answered)
 }
 
 // One turn.
-#[tactic(auto, using(crate::proofs::OwnTurnLaws::own_told, crate::proofs::OwnTurnLaws::keep_told))]
+#[tactic(auto, using(crate::proofs::OwnTurnLaws::keep_told))]
 fn take_turn<S: Store + Drop, L: Handed, G: Gate, R: Wait>(
     rt: &R,
     alloc: Global,
