@@ -2,6 +2,7 @@ pub mod Apart
 pub mod Carried
 pub mod Committed
 pub mod Common
+pub mod FlushedLaws
 pub mod GoesOnLaws
 pub mod LeavesLaws
 pub mod OwnTurnLaws

@@ -1,6 +1,6 @@
 -- What a script prints is what one thread tells.
 use Rattle.admin_cli.proofs.Common.{Admin, Answer, Appends, Command, EndsScript, Err, Event, Executes, FaultKind, Fragment, IfOk, IfSome, Ino, IsFormatted, Keeps, List, MakesStep, None, Ok, Option, OutputLine, Rank, Refusal, Result, RunsInput, RunsLines, RunsNew, RunsOrNot, Some, StopsBefore, [], ap, append-nil, append_assoc, arith, inl, inr, length, refl, shown_line, subst, sym, text_of, ℕ, ◌++◌, ◌+◌, ◌∙◌, ◌∷◌, ◌≡◌}
-use Rattle.std.specs.Prelude.{◌⊎◌, filter, flat_map, map, replicate, suc, zero}
+use Rattle.std.specs.Prelude.{◌⊎◌, filter, flat_map, map, replicate, suc, take, zero}
 use Rattle.std.specs.List.{AllByRecursion}
 use Rattle.std.specs.FinMap as finite
 use Rattle.std.proofs.lemmas.List.{map-append}

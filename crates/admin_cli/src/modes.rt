@@ -1,5 +1,4 @@
 //! How a script is run, beside what its lines say.
-ghost use Rattle.std.specs.Prelude.{◌≡◌};
 
 /// What the options of a script ask for. Where none is set a script is run as it is written.
 #[derive(Clone, Copy, Debug, PartialEq, Eq)]
@@ -11,11 +10,4 @@ pub struct Mode {
     /// How many entries of the history stay behind each line; all of them where none is said. The book forgets those
     /// before, in bulk (`Book::forget`): fewer than twice as many stay.
     pub history: Option<usize>,
-}
-
-// probe
-pub fn probe() -> u8
-    ensures { result ≡ 1 }
-{
-    1
 }

@@ -172,6 +172,7 @@ impl<S: Keep + Drop> Admin<S> {
     }
 
     // The book is flushed, and no job is kept any more, unless an export stands.
+    #[tactic(auto, using(crate::proofs::FlushedLaws::cold_after))]
     #[inline(never)]
     pub(crate) fn flush_book(
         &mut self,

@@ -1,5 +1,5 @@
 -- Receipts, looked at from the last to the first.
-use Rattle.rank_threads.proofs.Common.{Agree, AllByRecursion, NoneTwice, Bool, Entry, Fits, IsHeld, IsHeldAmong, IsThere, List, Receipt, Stand, StandAmong, [], ap, arith, cond, drop, drop-length, drop_more, false, first_places, get_or, get_or-replicate, length, length-append, length-replicate, length-set, list_any, marked, nat_eq, refl, replicate, rules, set, subst, suc, sym, true, zero, ℕ, ◌++◌, ◌+◌, ◌-◌, ◌<◌, ◌||◌, ◌∙◌, ◌∷◌, ◌≡◌, ◌≤◌}
+use Rattle.rank_threads.proofs.Common.{Agree, AllByRecursion, NoneTwice, Bool, Entry, Fits, IsHeld, IsHeldAmong, HasEntry, List, Receipt, Stand, StandAmong, [], ap, arith, cond, drop, drop-length, drop_more, false, first_places, get_or, get_or-replicate, length, length-append, length-replicate, length-set, list_any, marked, nat_eq, refl, replicate, rules, set, subst, suc, sym, true, zero, ℕ, ◌++◌, ◌+◌, ◌-◌, ◌<◌, ◌||◌, ◌∙◌, ◌∷◌, ◌≡◌, ◌≤◌}
 use Rattle.std.specs.Prelude.{IsTrue, ◌↔◌}
 use Rattle.std.proofs.lemmas.Bool.{eq-eqb, eqb-true, false≢true}
 use Rattle.std.proofs.Math.Seq.{get_or-append-add}
@@ -77,7 +77,7 @@ at_place : (forgotten p place : ℕ) → forgotten ≤ place → nat_eq p (place
 at_place forgotten p place there = sym (same_place forgotten p (place - forgotten)) ∙ ap (λ n. nat_eq (forgotten + p) n) (back forgotten place there)
 
 module _ (forgotten count : ℕ) (r : Receipt) (rs : List Receipt) where
-  named_more : (b : Bool) → r.first ≡ b → (named : List Bool) → AreMarked forgotten count named rs → IsThere forgotten r → r.place - forgotten < count → AreMarked forgotten count (marked forgotten named r) (r ∷ rs)
+  named_more : (b : Bool) → r.first ≡ b → (named : List Bool) → AreMarked forgotten count named rs → HasEntry forgotten r → r.place - forgotten < count → AreMarked forgotten count (marked forgotten named r) (r ∷ rs)
   named_more true is named m there below = record {
     len = rw is (length-set named (r.place - forgotten) true ∙ m.len);
     at = λ p low. rw is (set_at named (r.place - forgotten) p (omega (arith, m.len, below)) ∙ (λ i. at_place forgotten p r.place there i || m.at p low i));
@@ -85,7 +85,7 @@ module _ (forgotten count : ℕ) (r : Receipt) (rs : List Receipt) where
   named_more false is named m there below = record { len = rw is m.len; at = λ p low. rw is (m.at p low) }
 
   -- the places of one receipt more are named
-  pub marked_more : (named : List Bool) → AreMarked forgotten count named rs → IsThere forgotten r → r.place - forgotten < count → AreMarked forgotten count (marked forgotten named r) (r ∷ rs)
+  pub marked_more : (named : List Bool) → AreMarked forgotten count named rs → HasEntry forgotten r → r.place - forgotten < count → AreMarked forgotten count (marked forgotten named r) (r ∷ rs)
   marked_more named m there below = named_more r.first refl named m there below
 
 -- at the end of the list no place is named
@@ -153,7 +153,7 @@ module _ (past history : List Entry) where
     reply_is = λ e. ap (λ (x : Entry). x.reply) (at_back past history r.place e there) ∙ h.reply_is e;
   }
 
-  held_among : (r : Receipt) → IsThere (length past) r → IsHeld (past ++ history) r → IsHeldAmong (length past) history r
+  held_among : (r : Receipt) → HasEntry (length past) r → IsHeld (past ++ history) r → IsHeldAmong (length past) history r
   held_among r there h = (
     there,
     record {
@@ -164,32 +164,32 @@ module _ (past history : List Entry) where
     },
   )
 
-  all_held_in_all : (rs : List Receipt) → AllByRecursion (IsHeldAmong (length past) history) rs → AllByRecursion (IsHeld (past ++ history)) rs × AllByRecursion (IsThere (length past)) rs
+  all_held_in_all : (rs : List Receipt) → AllByRecursion (IsHeldAmong (length past) history) rs → AllByRecursion (IsHeld (past ++ history)) rs × AllByRecursion (HasEntry (length past)) rs
   all_held_in_all [] h = (tt, tt)
   all_held_in_all (r ∷ rs) (one, more) = let rest = all_held_in_all rs more in ((held_in_all r one, rest.0), (one.0, rest.1))
 
-  all_held_among : (rs : List Receipt) → AllByRecursion (IsThere (length past)) rs → AllByRecursion (IsHeld (past ++ history)) rs → AllByRecursion (IsHeldAmong (length past) history) rs
+  all_held_among : (rs : List Receipt) → AllByRecursion (HasEntry (length past)) rs → AllByRecursion (IsHeld (past ++ history)) rs → AllByRecursion (IsHeldAmong (length past) history) rs
   all_held_among [] there h = tt
   all_held_among (r ∷ rs) (one, others) (held, more) = (held_among r one held, all_held_among rs others more)
 
   -- receipts that stand among the entries that aren't forgotten stand in the whole history, and are there
-  pub stand_in_all : (from : ℕ) (rs : List Receipt) → StandAmong (length past) history from rs → Stand (past ++ history) from rs × AllByRecursion (IsThere (length past)) rs
+  pub stand_in_all : (from : ℕ) (rs : List Receipt) → StandAmong (length past) history from rs → Stand (past ++ history) from rs × AllByRecursion (HasEntry (length past)) rs
   stand_in_all from rs h = let held = all_held_in_all rs h.held in (record { held = held.0; newer = h.newer; apart = h.apart }, held.1)
 
-  pub stand_among : (from : ℕ) (rs : List Receipt) → AllByRecursion (IsThere (length past)) rs → Stand (past ++ history) from rs → StandAmong (length past) history from rs
+  pub stand_among : (from : ℕ) (rs : List Receipt) → AllByRecursion (HasEntry (length past)) rs → Stand (past ++ history) from rs → StandAmong (length past) history from rs
   stand_among from rs there h = record { held = all_held_among rs there h.held; newer = h.newer; apart = h.apart }
 
 -- the answer of an audit, behind a past
 module _ (past history : List Entry) (forgotten places from : ℕ) (rs : List Receipt) (is_past : length past ≡ forgotten) (is_all : length (past ++ history) ≡ places) where
-  abbrev AgreeAndAreThere : Type 0
-  AgreeAndAreThere = Agree (past ++ history) from rs × AllByRecursion (IsThere (length past)) rs
+  abbrev AgreeAndHaveEntries : Type 0
+  AgreeAndHaveEntries = Agree (past ++ history) from rs × AllByRecursion (HasEntry (length past)) rs
 
-  pub counted : (firsts new : ℕ) → new ≡ places - from → firsts ≡ length (first_places rs) → StandAmong forgotten history from rs → IsTrue (nat_eq firsts new) ↔ AgreeAndAreThere
+  pub counted : (firsts new : ℕ) → new ≡ places - from → firsts ≡ length (first_places rs) → StandAmong forgotten history from rs → IsTrue (nat_eq firsts new) ↔ AgreeAndHaveEntries
   counted firsts new is_new count stand =
       let its = stand_in_all past history from rs (subst (λ n. StandAmong n history from rs) (sym is_past) stand) in (
         λ same. let n = eqb-true firsts new same in (record { stand = its.0; as_many = omega (arith, n, is_new, count, is_all) }, its.1),
         λ all. let many = all.0.as_many in eq-eqb firsts new (omega (arith, many, is_new, count, is_all)),
       )
 
-  pub strays : (IsTrue false ↔ StandAmong forgotten history from rs) → IsTrue false ↔ AgreeAndAreThere
+  pub strays : (IsTrue false ↔ StandAmong forgotten history from rs) → IsTrue false ↔ AgreeAndHaveEntries
   strays (to, of) = (λ no. absurd (false≢true no), λ all. of (subst (λ n. StandAmong n history from rs) is_past (stand_among past history from rs all.1 all.0.stand)))

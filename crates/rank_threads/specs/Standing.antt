@@ -6,13 +6,13 @@ use Rattle.cluster_core.specs.declared.receipts.Receipt.{Receipt}
 use Rattle.cluster_core.specs.OneThread.{NoneTwice, StandsInHistory, first_places}
 
 -- the entry of a receipt isn't forgotten, where so many are
-abbrev pub IsThere : ℕ → Receipt → Type 0
-IsThere forgotten r = forgotten ≤ r.place
+abbrev pub HasEntry : ℕ → Receipt → Type 0
+HasEntry forgotten r = forgotten ≤ r.place
 
 -- it is there, and holds the receipt: the first entry that isn't forgotten is that of the place behind those that are
 abbrev pub IsHeldAmong : ℕ → List Entry → Receipt → Type 0
 IsHeldAmong forgotten history r =
-    IsThere forgotten r × StandsInHistory history r.client r.tid (r.place - forgotten) r.reply
+    HasEntry forgotten r × StandsInHistory history r.client r.tid (r.place - forgotten) r.reply
 
 -- each receipt is held so; those marked first name distinct places from this one on
 pub record StandAmong (forgotten : ℕ) (history : List Entry) (from : ℕ) (receipts : List Receipt) : Type 0 where

@@ -5,7 +5,7 @@ ghost use Rattle.mds_types.specs.Tree.{Tree};
 ghost use Rattle.mds_types.specs.declared.entries.Entry.{Entry as Applied};
 ghost use Rattle.cluster_core.specs.OneThread.{Agree, first_places};
 ghost use Rattle.cluster_core.specs.Sound.{StandsBehind};
-ghost use Rattle.rank_threads.specs.Standing.{Fits, IsHeldAmong, IsThere, StandAmong, marked};
+ghost use Rattle.rank_threads.specs.Standing.{Fits, IsHeldAmong, HasEntry, StandAmong, marked};
 
 use crate::replies::is_same;
 use cluster_core::{Book, Receipt};
@@ -26,7 +26,7 @@ pub fn audit<S: Store + Drop>(
 ) -> Result<bool, Refusal>
     ensures ok { (opening : Tree) (past : List Applied) → StandsBehind opening past book.now → IfOk result
         (λ yes. IsTrue yes ↔ (Agree (past ++ book.now.history) from receipts.now
-        × AllByRecursion (IsThere (length past)) receipts.now)) }
+        × AllByRecursion (HasEntry (length past)) receipts.now)) }
     ensures err { IfErr result (λ refusal. refusal ≡ Refusal.NoMemory) }
 {
     let new = book.places().saturating_sub(from);
@@ -119,7 +119,7 @@ fn is_named(named: &Vec<bool>, place: usize) -> bool
 
 // Names the place of a receipt that is marked first.
 fn mark(forgotten: usize, named: &mut Vec<bool>, receipt: &Receipt)
-    requires there { IsThere forgotten receipt.now }
+    requires there { HasEntry forgotten receipt.now }
     requires below { receipt.now.place - forgotten < vec_len named.old }
     ensures { named.new.items ≡ marked forgotten named.old.items receipt.now }
 {
