@@ -1,6 +1,6 @@
 -- What a command does under the options of a script.
 use Rattle.admin_cli.proofs.Common.{Admin, Command, Executes, OutputLine, refl, subst, sym, ◌≡◌}
-use Rattle.std.specs.Prelude.{Bool, IfOk, MatchBool, None, Option, Result, Some, false, true, ℕ}
+use Rattle.std.specs.Prelude.{Bool, Err, IfOk, MatchBool, None, Ok, Option, Result, Some, false, true, ℕ}
 use Rattle.script_text.specs.declared.commands.Command.TheVariants as command
 use Rattle.script_text.specs.declared.store_commands.StoreCommand.{StoreCommand}
 use Rattle.script_text.specs.declared.store_commands.StoreCommand.TheVariants as store
@@ -18,6 +18,11 @@ as_asked asks A B is h = subst (λ (b : Bool). MatchBool b A B) (sym is) h
 pub then_forgets : (history : Option ℕ) (Did : Admin → Type 0) (middle new : Admin) → Did middle → ForgetsBehind history middle new → ThenForgets history Did new
 then_forgets None Did middle new did same = subst Did (sym same) did
 then_forgets (Some keep) Did middle new did forgot = (middle, did, forgot)
+
+pub then_forgets_of : (history : Option ℕ) (Did : OutputLine → Admin → Type 0) {E : Type 0} (result : Result OutputLine E) (middle new : Admin) → IfOk result (λ line. Did line middle) → ForgetsBehind history middle new
+    → IfOk result (λ line. ThenForgets history (Did line) new)
+then_forgets_of history Did (Ok line) middle new did forgot = then_forgets history (Did line) middle new did forgot
+then_forgets_of history Did (Err e) middle new did forgot = tt
 
 -- with no option a script does what it says
 same_store : (old new : Admin) (c : StoreCommand) (line : OutputLine) → DoesStoreUnder plain old new c line ≡ Executes old new (command.Store c) line

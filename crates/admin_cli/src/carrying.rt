@@ -18,7 +18,6 @@ use std::thread::Threads;
 
 impl<S: Keep + Drop> Admin<S> {
     /// Does what a command asks for under the options of the script, and answers the line to print; else as `execute`.
-    #[tactic(auto, using(crate::proofs::Carried::then_forgets))]
     #[inline(never)]
     pub fn carry(
         &mut self,
@@ -31,9 +30,12 @@ impl<S: Keep + Drop> Admin<S> {
         ensures err { OnErr result (LacksForCommand (seen self.old) (seen self.new) command) }
         ensures count { self.new.operations ≤ self.old.operations + 1 }
     {
-        let shown = self.carry_out(rt, mode, command)?;
-        self.forget(mode);
-        Ok(shown)
+        let shown = self.carry_out(rt, mode, command);
+        // the answer stays where it is, so it is moved nowhere
+        if shown.is_ok() {
+            self.forget(mode);
+        }
+        shown
     }
 
     // Does so, and forgets nothing.
