@@ -1,6 +1,6 @@
 -- What a command does under the options of a script.
 use Rattle.admin_cli.proofs.Common.{Admin, Command, Executes, OutputLine, refl, subst, sym, ◌≡◌}
-use Rattle.std.specs.Prelude.{Bool, IfOk, MatchBool, None, Option, Result, Some, false, true, ℕ}
+use Rattle.std.specs.Prelude.{Bool, MatchBool, None, Option, Some, false, true, ℕ}
 use Rattle.script_text.specs.declared.commands.Command.TheVariants as command
 use Rattle.script_text.specs.declared.store_commands.StoreCommand.{StoreCommand}
 use Rattle.script_text.specs.declared.store_commands.StoreCommand.TheVariants as store
