@@ -83,8 +83,8 @@ fn leave<S: Store + Drop>(book: &mut Book<S>)
 }
 
 /// A book that is asked, in which nothing waits between two requests: so that each may be. A service forgets nothing by
-/// itself: it keeps an entry for each change that was ever asked of it. Who asks for long calls `drop_opening` once, where
-/// nobody reads the opening tree, and `forget` between two requests, with the number of entries that are to stay.
+/// itself: it keeps an entry for each request that was ever applied. A program that runs for long calls `drop_opening` once,
+/// where nobody reads the opening tree, and `forget` between two requests, with the number of entries that are to stay.
 #[derive(Drop)]
 pub struct Service<S: Store + Drop> {
     book: Book<S>,
