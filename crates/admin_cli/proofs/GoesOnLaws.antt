@@ -1,5 +1,5 @@
 -- A load's book goes on.
-use Rattle.admin_cli.proofs.Common.{IsSoundKept, KeptState, List, Option, Some, StandsBehind, [], ap, append-nil, append_assoc, drop, refl, subst, sym, take, take-append-drop, ℕ, ◌++◌, ◌∙◌, ◌≡◌}
+use Rattle.admin_cli.proofs.Common.{IsSoundKept, KeptState, List, Option, Some, StandsBehind, [], ap, append-nil, append_assoc, drop, subst, sym, take, take-append-drop, ℕ, ◌++◌, ◌∙◌, ◌≡◌}
 use Rattle.std.specs.FinMap as map
 use Rattle.std.specs.Prelude.{IfSome}
 use Rattle.mds_types.specs.Tree.{Tree}

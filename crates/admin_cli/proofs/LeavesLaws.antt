@@ -1,5 +1,5 @@
 -- What a script leaves, wherever it ends.
-use Rattle.admin_cli.proofs.Common.{Admin, AnswersLine, Appends, Appends-trans, DoesBytes, Err, FaultKind, IfSome, IsFirstLine, LacksMemory, LeavesAdmin, LeavesWaiting, Line, List, Mark, None, OfFirst, Ok, Option, OutputLine, PrintsOf, Result, RunsLine, RunsLines, ScriptFault, Some, StopsAt, Waiting, [], append-nil, append_assoc, inl, inr, length, lines_of, refl, subst, sym, text_of, ℕ, ◌++◌, ◌+◌, ◌∙◌, ◌∷◌, ◌≡◌, ◌≤◌}
+use Rattle.admin_cli.proofs.Common.{Admin, AnswersLine, Appends, Appends-trans, DoesBytes, Err, FaultKind, IfSome, IsFirstLine, LacksMemory, LeavesAdmin, LeavesWaiting, Line, List, Mark, None, OfFirst, Ok, Option, OutputLine, PrintsOf, Result, RunsLine, RunsLines, ScriptFault, Some, StopsAt, Waiting, [], inl, inr, length, lines_of, refl, subst, sym, text_of, ℕ, ◌++◌, ◌∙◌, ◌∷◌, ◌≡◌, ◌≤◌}
 use Rattle.std.specs.Prelude.{◌⊎◌}
 use Rattle.admin_cli.proofs.Progress.{IsLeft, IsReached, TakesLines, all_lines, first_left, runs-append, some_left, takes-next}
 use Rattle.admin_cli.specs.Scripts.{DoesLine, Doing, LacksLine}

@@ -1,5 +1,5 @@
 -- What a script prints is what one thread tells.
-use Rattle.admin_cli.proofs.Common.{Admin, Answer, Appends, Command, EndsScript, Err, Event, Executes, FaultKind, Fragment, IfOk, IfSome, Ino, IsFormatted, Keeps, List, MakesStep, None, Ok, Option, OutputLine, Rank, Refusal, Result, RunsInput, RunsLines, RunsNew, RunsOrNot, Some, StopsBefore, [], ap, append-nil, append_assoc, arith, inl, inr, length, refl, shown_line, subst, sym, text_of, ℕ, ◌++◌, ◌+◌, ◌∙◌, ◌∷◌, ◌≡◌}
+use Rattle.admin_cli.proofs.Common.{Admin, Answer, Appends, Command, EndsScript, Err, Event, Executes, FaultKind, Fragment, IfOk, IfSome, Ino, IsFormatted, Keeps, List, MakesStep, None, Ok, Option, OutputLine, Rank, Refusal, Result, RunsInput, RunsLines, RunsOrNot, Some, StopsBefore, [], ap, append-nil, append_assoc, arith, inl, inr, length, refl, shown_line, subst, sym, text_of, ℕ, ◌++◌, ◌+◌, ◌∙◌, ◌∷◌, ◌≡◌}
 use Rattle.std.specs.Prelude.{◌⊎◌, filter, flat_map, map, replicate, suc, take, zero}
 use Rattle.std.specs.List.{AllByRecursion}
 use Rattle.std.specs.FinMap as finite
@@ -14,7 +14,7 @@ use Rattle.cluster_core.specs.Flush.{Flushes, KeepsBook}
 use Rattle.cluster_core.specs.OneThread.{IsAskedFor, IsSent, arrival, receipt_of, waiting_in}
 use Rattle.cluster_core.specs.SentBytes.{none_sent}
 use Rattle.cluster_core.specs.Sound.{IsSoundKept, StandsBehind}
-use Rattle.cluster_core.specs.State.{KeptState, State, new_state, places_of, whole_of}
+use Rattle.cluster_core.specs.State.{KeptState, State, whole_of}
 use Rattle.cluster_core.specs.declared.events.Answer.TheVariants as answer
 use Rattle.cluster_core.specs.declared.events.Event.TheVariants as event
 use Rattle.cluster_core.specs.declared.receipts.Receipt.{Receipt}

@@ -1,5 +1,5 @@
 -- A script so far, and what its next line or its end makes of it.
-use Rattle.admin_cli.proofs.Common.{Admin, AnswersLine, Appends, Appends-nil, Appends-trans, Bool, Breaks, BreaksOff, Command, DoesBytes, EndsScript, Err, Executes, FaultKind, IfOk, IfSome, IsEmpty, IsFirstLine, IsFormatted, IsTooLong, Keeps, KeptState, LacksForCommand, List, Mark, MayFlush, None, NotCommand, Ok, OnErr, Option, OutOfMemory, OutputLine, Prints, PrintsAny, PrintsCame, PrintsOf, PrintsOwn, ReadFault, Result, RunsInput, RunsLine, RunsLines, RunsNew, RunsOrNot, RunsWaiting, ScriptFault, Some, StopsAt, StopsBefore, TooLong, Waiting, WriteFault, [], ap, append-nil, append_assoc, arith, cond, drop, false, inl, inr, le-ltb, length, length-append, length-drop, length-replicate, line_at, lines_of, lt-ltb, ltb, ltb-false, ltb-true, none_sent, refl, replicate, subst, suc, sym, take, take-append-drop, take-append-le, text_of, true, ℕ, ◌++◌, ◌+◌, ◌-◌, ◌<◌, ◌∙◌, ◌∷◌, ◌≡◌, ◌≤◌}
+use Rattle.admin_cli.proofs.Common.{Admin, AnswersLine, Appends, Appends-nil, Appends-trans, Bool, Breaks, BreaksOff, Command, DoesBytes, EndsScript, Err, FaultKind, IfOk, IfSome, IsEmpty, IsFirstLine, IsFormatted, IsTooLong, Keeps, KeptState, LacksForCommand, List, Mark, MayFlush, None, NotCommand, Ok, OnErr, Option, OutOfMemory, OutputLine, Prints, PrintsAny, PrintsCame, PrintsOf, PrintsOwn, ReadFault, Result, RunsInput, RunsLine, RunsLines, RunsNew, RunsOrNot, RunsWaiting, ScriptFault, Some, StopsAt, StopsBefore, TooLong, Waiting, WriteFault, [], ap, append-nil, append_assoc, arith, cond, drop, false, inl, inr, le-ltb, length, length-append, length-drop, length-replicate, line_at, lines_of, lt-ltb, ltb, ltb-false, ltb-true, none_sent, refl, replicate, subst, suc, sym, take, take-append-drop, take-append-le, text_of, true, ℕ, ◌++◌, ◌+◌, ◌-◌, ◌<◌, ◌∙◌, ◌∷◌, ◌≡◌, ◌≤◌}
 use Rattle.std.specs.FinMap as map
 use Rattle.script_text.specs.declared.lines.Line.TheVariants as line
 use Rattle.admin_cli.specs.Scripts.{Doing}

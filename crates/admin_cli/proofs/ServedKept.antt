@@ -6,7 +6,7 @@ use Rattle.mds_types.specs.Tree.{Tree}
 use Rattle.mds_types.specs.declared.entries.Entry.{Entry}
 use Rattle.mds_types.specs.declared.requests.Request.{Request}
 use Rattle.inboxes.specs.Inboxes.{Inboxes}
-use Rattle.cluster_core.specs.OneThread.{InOrder, IsOneThread, arrival, receipt_of}
+use Rattle.cluster_core.specs.OneThread.{InOrder, arrival, receipt_of}
 use Rattle.cluster_core.specs.State.{Core}
 use Rattle.cluster_core.specs.declared.receipts.Receipt.{Receipt}
 use Rattle.cluster_core.proofs.Forgotten.{places_behind}

@@ -1,5 +1,5 @@
 -- Inboxes in which nothing waits.
-use Rattle.admin_cli.proofs.Common.{List, [], arith, get_or, length, ℕ, ◌+◌, ◌<◌, ◌∷◌, ◌≡◌, ◌≤◌}
+use Rattle.admin_cli.proofs.Common.{[], arith, get_or, length, ℕ, ◌<◌, ◌∷◌, ◌≡◌, ◌≤◌}
 use Rattle.std.specs.Prelude.{suc, zero}
 use Rattle.std.proofs.lemmas.List.{nil_from_length}
 use Rattle.inboxes.specs.Inboxes.{Inboxes, waiting_in_all}

@@ -8,7 +8,7 @@ ghost use Rattle.admin_cli.specs.Admin.{seen};
 use crate::commands::{Admin, shown_line};
 use crate::kept_jobs::KeptJobs;
 use cached_frag::Encoded;
-use cluster_core::{Answer, Event, flush};
+use cluster_core::{Answer, Book, Event, flush};
 use keeping::Keep;
 use mds_types::{Frag, Ino, Rank, Refusal};
 use object_lines::{object_line, objects_line};
@@ -172,7 +172,6 @@ impl<S: Keep + Drop> Admin<S> {
     }
 
     // The book is flushed, and no job is kept any more, unless an export stands.
-    #[tactic(auto, using(crate::proofs::FlushedLaws::cold_after))]
     #[inline(never)]
     pub(crate) fn flush_book(
         &mut self,
@@ -184,12 +183,10 @@ impl<S: Keep + Drop> Admin<S> {
         ensures sent { self.new.sent ≡ self.old.sent }
         ensures flushed { IsFlush self.old.book self.new.book result }
     {
-        let flushed = flush(rt, alloc, &mut self.book);
+        let flushed = write_all(rt, alloc, &mut self.book);
         if !is_hindered(&flushed) {
             self.jobs = KeptJobs::new(alloc);
         }
-        // The contract of `store` says here that a store which has all its objects in memory tells no fault.
-        let _ = self.book.cluster().store();
         flushed
     }
 
@@ -245,4 +242,19 @@ fn begun_line(number: Result<Option<u64>, Refusal>) -> OutputLine
         Ok(None) => OutputLine::Nothing,
         Err(refusal) => OutputLine::Refused(refusal),
     }
+}
+
+// A book is flushed.
+#[tactic(auto, using(crate::proofs::FlushedLaws::cold_after))]
+fn write_all<S: Keep + Drop>(
+    rt: &(impl Threads + Sync),
+    alloc: Global,
+    book: &mut Book<S>,
+) -> Result<(), Refusal>
+    ensures { IsFlush book.old book.new result }
+{
+    let flushed = flush(rt, alloc, book);
+    // The contract of `store` says here that a store which has all its objects in memory tells no fault.
+    let _ = book.cluster().store();
+    flushed
 }
