@@ -176,7 +176,7 @@ impl Sessions {
         ensures aside { table self.new ≡ forget_all (table self.old) (take result history.old.items) }
     {
         let gone = self.forget_while(history, count, true);
-        drop(history.drain(..gone));
+        cut(history, gone);
         gone
     }
 
@@ -192,7 +192,7 @@ impl Sessions {
         ensures aside { table self.new ≡ forget_all (table self.old) (take result history.old.items) }
     {
         let gone = self.forget_while(history, count, false);
-        drop(history.drain(..gone));
+        cut(history, gone);
         gone
     }
 
@@ -271,6 +271,21 @@ impl fmt::Debug for Sessions {
         } = self;
         write!(f, "Sessions({indices:?}, {sessions:?})")
     }
+}
+
+// Removes so many entries of the front. Where at least as many go as stay, those that stay change places with the first.
+fn cut(history: &mut Vec<Entry>, gone: usize)
+    requires { gone ≤ length history.old.items }
+    ensures { history.new.items ≡ drop gone history.old.items }
+{
+    let stay = history.len() - gone;
+    if stay > gone {
+        drop(history.drain(..gone));
+        return;
+    }
+    let (front, back) = history.split_at_mut(gone);
+    front[..stay].swap_with_slice(back);
+    history.truncate(stay);
 }
 
 // A client of which nothing is known, with room for one reply.
