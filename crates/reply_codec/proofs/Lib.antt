@@ -1,0 +1,5 @@
+pub mod Again
+pub mod Common
+pub mod Items
+pub mod ReplyLaws
+pub mod Taken

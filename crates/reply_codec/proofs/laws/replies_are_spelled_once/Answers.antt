@@ -1,0 +1,8 @@
+use Rattle.reply_codec.proofs.ReplyLaws.{no_reply_begins_another, one_reply}
+use Rattle.reply_codec.proofs.laws.replies_are_spelled_once.Goals as goal
+
+pub returns-clause-meaning : goal.returns-clause-meaning
+returns-clause-meaning c = one_reply
+
+pub returns-clause-ended : goal.returns-clause-ended
+returns-clause-ended c = no_reply_begins_another

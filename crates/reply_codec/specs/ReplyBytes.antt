@@ -1,0 +1,92 @@
+-- The bytes of a reply (this project's own profile).
+use Rattle.std.specs.Prelude.{◌≡◌, ℕ, ◌+◌, ◌^◌, ◌<◌, ◌≤◌, Bool, true, false, List, [], ◌∷◌, ◌++◌, length, Option, Some, None}
+use Rattle.std.specs.List.{flat_map, AllByRecursion}
+use Rattle.byteorder.specs.Endian.{little_bytes}
+use Rattle.mds_types.specs.Name.{IsName, IsTarget}
+use Rattle.mds_types.specs.declared.ids.Rank.{Rank}
+use Rattle.mds_types.specs.declared.inodes.Inode.{Inode}
+use Rattle.mds_types.specs.declared.replies.Reply.{Reply}
+use Rattle.mds_types.specs.declared.replies.Reply.TheVariants.{Entry, Entries, Target, Done, Errno}
+use Rattle.dirfrag_codec.specs.EntryRecord.{HasTarget, HasWidths, fields_bytes, kind_byte, target_of}
+
+-- ---- what holds of every reply, by its type
+
+-- a pin is a rank, which has 8 bits
+abbrev pub HasRank : Option Rank → Type 0
+HasRank None = Unit {0}
+HasRank (Some rank) = rank.0 < 2 ^ 8
+
+-- an inode: its numbers have as many bits as their types, its mode has 12, and a link has a target
+pub record IsInode (inode : Inode) : Type 0 where
+  pub number : inode.ino.0 < 2 ^ 64
+  pub widths : HasWidths inode
+  pub mode : inode.mode ≤ 4095
+  pub pin : HasRank inode.pin
+  pub target : HasTarget inode.kind
+
+-- a name with its inode
+abbrev pub IsListed : List ℕ × Inode → Type 0
+IsListed entry = IsName entry.0 × IsInode entry.1
+
+-- a listing, which has fewer than 2 ^ 64 names
+abbrev pub IsListing : List (List ℕ × Inode) → Type 0
+IsListing list = (length list < 2 ^ 64) × AllByRecursion IsListed list
+
+-- a reply
+abbrev pub IsReply : Reply → Type 0
+IsReply (Entry inode) = IsInode inode
+IsReply (Entries list more) = IsListing list
+IsReply (Target target) = IsTarget target
+IsReply Done = Unit {0}
+IsReply (Errno number) = number < 2 ^ 16
+
+-- ---- the bytes
+
+-- the number of a pin: 0 for none, else the rank's number and 1
+abbrev pub pin_number : Option Rank → ℕ
+pin_number None = 0
+pin_number (Some rank) = rank.0 + 1
+
+-- the numbers of an inode: kind, number, size, time of the last change, owner, group, mode, pin and the length of the
+-- target; and how many bytes each has
+abbrev pub inode_numbers : Inode → List ℕ
+inode_numbers inode =
+    kind_byte inode.kind ∷ inode.ino.0 ∷ inode.size ∷ inode.mtime ∷ inode.uid ∷ inode.gid ∷ inode.mode
+    ∷ pin_number inode.pin ∷ length (target_of inode.kind) ∷ []
+
+abbrev pub inode_widths : List ℕ
+inode_widths = 1 ∷ 8 ∷ 8 ∷ 8 ∷ 4 ∷ 4 ∷ 2 ∷ 2 ∷ 2 ∷ []
+
+-- an inode: its numbers, and the target of a link
+abbrev pub inode_bytes : Inode → List ℕ
+inode_bytes inode = fields_bytes inode_widths (inode_numbers inode) ++ target_of inode.kind
+
+-- a name behind its length, and its inode
+abbrev pub listed_bytes : List ℕ × Inode → List ℕ
+listed_bytes entry = length entry.0 ∷ (entry.0 ++ inode_bytes entry.1)
+
+-- whether further names follow
+abbrev pub more_byte : Bool → ℕ
+more_byte false = 0
+more_byte true = 1
+
+-- a target behind its length
+abbrev pub target_bytes : List ℕ → List ℕ
+target_bytes target = little_bytes 2 (length target) ++ target
+
+-- a listing: whether further names follow, how many there are, and each of them
+abbrev pub listing_bytes : List (List ℕ × Inode) → Bool → List ℕ
+listing_bytes list more = more_byte more ∷ (little_bytes 8 (length list) ++ flat_map listed_bytes list)
+
+-- a reply: its kind, and what it says
+abbrev pub reply_bytes : Reply → List ℕ
+reply_bytes (Entry inode) = 1 ∷ inode_bytes inode
+reply_bytes (Entries list more) = 2 ∷ listing_bytes list more
+reply_bytes (Target target) = 3 ∷ target_bytes target
+reply_bytes Done = 4 ∷ []
+reply_bytes (Errno number) = 5 ∷ little_bytes 2 number
+
+-- the grammar of replies
+pub record SpellsReply (bytes : List ℕ) (reply : Reply) : Type 0 where
+  pub typed : IsReply reply
+  pub spelled : bytes ≡ reply_bytes reply

@@ -1,0 +1,339 @@
+//! The reply whose bytes these are.
+ghost use Rattle.std.specs.Prelude.{◌≡◌, IfOk};
+ghost use Rattle.dirfrag_codec.specs.Grammar.{Decodes};
+ghost use Rattle.dirfrag_codec.specs.Reading.{Gives};
+ghost use Rattle.reply_codec.specs.Reading.{InodeFields, entries_at, entry_at, errno_at, fields_at, inode_at, inode_of, items_at, kind_of, link_at, listed_at, long_part_at, more_of, name_at, part_at, pin_of, reply_at, said_at, short_part_at, target_at};
+ghost use Rattle.reply_codec.specs.ReplyBytes.{SpellsReply};
+
+use crate::writing::{DIR, DONE, ENTRIES, ENTRY, ERRNO, FILE, SYMLINK, TARGET};
+use dirfrag_codec::fields::{u8_at, u16_at, u32_at, u64_at};
+use mds_types::{
+    Ino, Inode, Kind, Listing, Mode, Name, NameFault, Rank, Reply, Target, TargetFault,
+};
+use std::alloc::{AllocError, Global};
+
+/// The reply whose bytes these are; none, where they are no reply's. Takes memory for a listing and for targets.
+pub fn decode_reply(alloc: Global, bytes: &[u8]) -> Result<Option<Reply>, AllocError>
+    ensures { IfOk result (Decodes SpellsReply bytes.now) }
+{
+    let Some((reply, rest)) = reply_at(alloc, bytes)? else {
+        return Ok(None);
+    };
+    if !rest.is_empty() {
+        drop(reply);
+        return Ok(None);
+    }
+    Ok(Some(reply))
+}
+
+// A reply, and the bytes after it.
+#[tactic(auto, unfolding(crate::specs::Reading::reply_at))]
+fn reply_at(alloc: Global, bytes: &[u8]) -> Result<Option<(Reply, &[u8])>, AllocError>
+    ensures { IfOk result (λ answer. Gives (λ x. (x.0, x.1.now)) answer (reply_at bytes.now)) }
+{
+    let Some((kind, rest)) = u8_at(bytes) else {
+        return Ok(None);
+    };
+    said_at(alloc, kind, rest)
+}
+
+// What stands behind the byte of a kind of replies, and the bytes after it.
+fn said_at(alloc: Global, kind: u8, bytes: &[u8]) -> Result<Option<(Reply, &[u8])>, AllocError>
+    ensures { IfOk result (λ answer. Gives (λ x. (x.0, x.1.now)) answer (said_at kind bytes.now)) }
+{
+    match kind {
+        ENTRY => entry_at(alloc, bytes),
+        ENTRIES => entries_at(alloc, bytes),
+        TARGET => link_at(alloc, bytes),
+        DONE => Ok(Some((Reply::Done, bytes))),
+        ERRNO => Ok(errno_at(bytes)),
+        _ => Ok(None),
+    }
+}
+
+// The reply that is an inode, and the bytes after it.
+#[tactic(auto, unfolding(crate::specs::Reading::entry_at))]
+fn entry_at(alloc: Global, bytes: &[u8]) -> Result<Option<(Reply, &[u8])>, AllocError>
+    ensures { IfOk result (λ answer. Gives (λ x. (x.0, x.1.now)) answer (entry_at bytes.now)) }
+{
+    let Some((inode, rest)) = inode_at(alloc, bytes)? else {
+        return Ok(None);
+    };
+    Ok(Some((Reply::Entry(inode), rest)))
+}
+
+// The reply that is a listing, and the bytes after it.
+#[tactic(auto, unfolding(crate::specs::Reading::entries_at))]
+fn entries_at(alloc: Global, bytes: &[u8]) -> Result<Option<(Reply, &[u8])>, AllocError>
+    ensures { IfOk result (λ answer. Gives (λ x. (x.0, x.1.now)) answer (entries_at bytes.now)) }
+{
+    let Some((byte, rest)) = u8_at(bytes) else {
+        return Ok(None);
+    };
+    let Some(more) = more_of(byte) else {
+        return Ok(None);
+    };
+    let Some((count, rest)) = u64_at(rest) else {
+        return Ok(None);
+    };
+    let Some((list, rest)) = list_at(alloc, rest, count)? else {
+        return Ok(None);
+    };
+    Ok(Some((Reply::Entries { list, more }, rest)))
+}
+
+// The reply that is a target, and the bytes after it.
+#[tactic(auto, unfolding(crate::specs::Reading::link_at))]
+fn link_at(alloc: Global, bytes: &[u8]) -> Result<Option<(Reply, &[u8])>, AllocError>
+    ensures { IfOk result (λ answer. Gives (λ x. (x.0, x.1.now)) answer (link_at bytes.now)) }
+{
+    let Some((target, rest)) = target_at(alloc, bytes)? else {
+        return Ok(None);
+    };
+    Ok(Some((Reply::Target(target), rest)))
+}
+
+// The reply that is an error, and the bytes after it.
+#[tactic(auto, unfolding(crate::specs::Reading::errno_at))]
+fn errno_at(bytes: &[u8]) -> Option<(Reply, &[u8])>
+    ensures { Gives (λ x. (x.0, x.1.now)) result (errno_at bytes.now) }
+{
+    let (number, rest) = u16_at(bytes)?;
+    Some((Reply::Errno(number), rest))
+}
+
+// Whether further names follow, as a byte says it.
+fn more_of(byte: u8) -> Option<bool>
+    ensures { result ≡ more_of byte }
+{
+    match byte {
+        0 => Some(false),
+        1 => Some(true),
+        _ => None,
+    }
+}
+
+// So many names with their inodes, and the bytes after them.
+fn list_at(alloc: Global, bytes: &[u8], count: u64) -> Result<Option<(Listing, &[u8])>, AllocError>
+    ensures { IfOk result (λ answer. Gives (λ x. (x.0, x.1.now)) answer (items_at listed_at count bytes.now)) }
+{
+    let mut list = Vec::new(alloc);
+    let mut rest = bytes;
+    'names: while (list.len() as u64) < count {
+        let Some((entry, after)) = listed_at(alloc, rest)? else {
+            return Ok(None);
+        };
+        list.push(entry)?;
+        rest = after;
+    }
+    Ok(Some((Listing::from_vec(list), rest)))
+}
+
+// A name with its inode, and the bytes after it.
+#[tactic(auto, unfolding(crate::specs::Reading::listed_at))]
+fn listed_at(alloc: Global, bytes: &[u8]) -> Result<Option<((Name, Inode), &[u8])>, AllocError>
+    ensures { IfOk result (λ answer. Gives (λ x. (x.0, x.1.now)) answer (listed_at bytes.now)) }
+{
+    let Some((name, rest)) = name_at(alloc, bytes)? else {
+        return Ok(None);
+    };
+    let Some((inode, rest)) = inode_at(alloc, rest)? else {
+        return Ok(None);
+    };
+    Ok(Some(((name, inode), rest)))
+}
+
+// A name behind its length, and the bytes after it.
+#[tactic(auto, unfolding(crate::specs::Reading::name_at))]
+fn name_at(alloc: Global, bytes: &[u8]) -> Result<Option<(Name, &[u8])>, AllocError>
+    ensures { IfOk result (λ answer. Gives (λ x. (x.0, x.1.now)) answer (name_at bytes.now)) }
+{
+    let Some((text, rest)) = short_part_at(bytes) else {
+        return Ok(None);
+    };
+    match Name::from_bytes(alloc, text) {
+        Ok(name) => Ok(Some((name, rest))),
+        Err(NameFault::NoMemory) => Err(AllocError),
+        Err(_) => Ok(None),
+    }
+}
+
+// A target behind its length, and the bytes after it.
+#[tactic(auto, unfolding(crate::specs::Reading::target_at))]
+fn target_at(alloc: Global, bytes: &[u8]) -> Result<Option<(Target, &[u8])>, AllocError>
+    ensures { IfOk result (λ answer. Gives (λ x. (x.0, x.1.now)) answer (target_at bytes.now)) }
+{
+    let Some((text, rest)) = long_part_at(bytes) else {
+        return Ok(None);
+    };
+    match Target::from_bytes(alloc, text) {
+        Ok(target) => Ok(Some((target, rest))),
+        Err(TargetFault::NoMemory) => Err(AllocError),
+        Err(_) => Ok(None),
+    }
+}
+
+// Bytes behind their number in one byte, and the bytes after them.
+fn short_part_at(bytes: &[u8]) -> Option<(&[u8], &[u8])>
+    ensures { Gives (λ x. (x.0.now, x.1.now)) result (short_part_at bytes.now) }
+{
+    let (len, rest) = u8_at(bytes)?;
+    part_at(rest, usize::from(len))
+}
+
+// Bytes behind their number in two bytes, and the bytes after them.
+fn long_part_at(bytes: &[u8]) -> Option<(&[u8], &[u8])>
+    ensures { Gives (λ x. (x.0.now, x.1.now)) result (long_part_at bytes.now) }
+{
+    let (len, rest) = u16_at(bytes)?;
+    part_at(rest, usize::from(len))
+}
+
+// So many bytes, and the bytes after them.
+fn part_at(bytes: &[u8], len: usize) -> Option<(&[u8], &[u8])>
+    ensures { Gives (λ x. (x.0.now, x.1.now)) result (part_at len bytes.now) }
+{
+    if bytes.len() < len {
+        return None;
+    }
+    Some(bytes.split_at(len))
+}
+
+// An inode, and the bytes after it.
+#[tactic(auto, unfolding(crate::specs::Reading::inode_at))]
+fn inode_at(alloc: Global, bytes: &[u8]) -> Result<Option<(Inode, &[u8])>, AllocError>
+    ensures { IfOk result (λ answer. Gives (λ x. (x.0, x.1.now)) answer (inode_at bytes.now)) }
+{
+    let Some((fields, rest)) = fields_at(bytes) else {
+        return Ok(None);
+    };
+    let Some(inode) = inode_of(alloc, fields)? else {
+        return Ok(None);
+    };
+    Ok(Some((inode, rest)))
+}
+
+// The fields of an inode, whatever they mean.
+#[derive(Clone, Copy)]
+struct Fields<'a> {
+    kind: u8,
+    ino: u64,
+    size: u64,
+    mtime: u64,
+    uid: u32,
+    gid: u32,
+    mode: u16,
+    pin: u16,
+    target: &'a [u8],
+}
+
+// The fields of an inode, and the bytes after them.
+#[tactic(auto, unfolding(crate::specs::Reading::fields_at))]
+fn fields_at(bytes: &[u8]) -> Option<(Fields<'_>, &[u8])>
+    ensures { Gives (λ x. (
+      record {
+        kind = x.0.kind;
+        ino = x.0.ino;
+        size = x.0.size;
+        mtime = x.0.mtime;
+        uid = x.0.uid;
+        gid = x.0.gid;
+        mode = x.0.mode;
+        pin = x.0.pin;
+        target = x.0.target.now;
+      },
+      x.1.now,
+    )) result (fields_at bytes.now) }
+{
+    let (kind, rest) = u8_at(bytes)?;
+    let (ino, rest) = u64_at(rest)?;
+    let (size, rest) = u64_at(rest)?;
+    let (mtime, rest) = u64_at(rest)?;
+    let (uid, rest) = u32_at(rest)?;
+    let (gid, rest) = u32_at(rest)?;
+    let (mode, rest) = u16_at(rest)?;
+    let (pin, rest) = u16_at(rest)?;
+    let (target, rest) = long_part_at(rest)?;
+    let fields = Fields {
+        kind,
+        ino,
+        size,
+        mtime,
+        uid,
+        gid,
+        mode,
+        pin,
+        target,
+    };
+    Some((fields, rest))
+}
+
+// The inode of these fields, if there is one.
+#[tactic(auto, unfolding(crate::specs::Reading::inode_of))]
+fn inode_of(alloc: Global, fields: Fields<'_>) -> Result<Option<Inode>, AllocError>
+    ensures { IfOk result (λ answer. answer ≡ inode_of (record {
+      kind = fields.entry.kind;
+      ino = fields.entry.ino;
+      size = fields.entry.size;
+      mtime = fields.entry.mtime;
+      uid = fields.entry.uid;
+      gid = fields.entry.gid;
+      mode = fields.entry.mode;
+      pin = fields.entry.pin;
+      target = fields.entry.target.now;
+    })) }
+{
+    let Some(mode) = Mode::new(fields.mode) else {
+        return Ok(None);
+    };
+    let Some(pin) = pin_of(fields.pin) else {
+        return Ok(None);
+    };
+    let Some(kind) = kind_of(alloc, fields.kind, fields.target)? else {
+        return Ok(None);
+    };
+    Ok(Some(Inode {
+        ino: Ino(fields.ino),
+        kind,
+        size: fields.size,
+        mtime: fields.mtime,
+        uid: fields.uid,
+        gid: fields.gid,
+        mode,
+        pin,
+    }))
+}
+
+// The kind of a byte, with the target of a link; the other kinds have none.
+fn kind_of(alloc: Global, byte: u8, target: &[u8]) -> Result<Option<Kind>, AllocError>
+    ensures { IfOk result (λ answer. answer ≡ kind_of byte target.now) }
+{
+    if byte == SYMLINK {
+        return match Target::from_bytes(alloc, target) {
+            Ok(target) => Ok(Some(Kind::Symlink(target))),
+            Err(TargetFault::NoMemory) => Err(AllocError),
+            Err(_) => Ok(None),
+        };
+    }
+    if !target.is_empty() {
+        return Ok(None);
+    }
+    match byte {
+        FILE => Ok(Some(Kind::File)),
+        DIR => Ok(Some(Kind::Dir)),
+        _ => Ok(None),
+    }
+}
+
+// The pin of a number.
+fn pin_of(number: u16) -> Option<Option<Rank>>
+    ensures { result ≡ pin_of number }
+{
+    if number == 0 {
+        return Some(None);
+    }
+    match u8::try_from(number - 1) {
+        Ok(rank) => Some(Some(Rank(rank))),
+        Err(_) => None,
+    }
+}
