@@ -1,5 +1,6 @@
 -- What is written of a reply is read again.
-use Rattle.reply_codec.proofs.Common.{Bool, Decides, Decides-and, Decides-like, Decides-ltb, Dir, Done, Entries, Entry, Errno, File, Fit, HasRank, HasTarget, Inode, InodeFields, IsInode, IsListed, IsName, IsReply, IsTarget, Kind, List, None, Option, Rank, Reply, Some, Symlink, Target, [], ap, append_assoc, arith, byte_at, cond, drop_at, eqb, false, fields_bytes, fields_of, fits_target, flat_map, get_or, inode_bytes, inode_numbers, inode_widths, inode_with, is_name, is_target, items_at, kind_byte, kind_of, le-ltb, leb, length, length-append, list_all, listed_bytes, little_bytes, long_part_at, ltb, mode_of, more_byte, more_of, name_decides, nat_tests, number_again, number_at, numbers_again, numbers_at, part_at, pin_number, pin_of, refl, reply_bytes, said_at, short_part_at, sym, take_at, target_bytes, target_of, true, ℕ, ◌&&◌, ◌++◌, ◌+◌, ◌<◌, ◌>>=◌, ◌^◌, ◌∙◌, ◌∷◌, ◌≡◌, ◌≤◌}
+use Rattle.reply_codec.proofs.Common.{Bool, Decides, Decides-and, Decides-like, Decides-ltb, Dir, Done, Entries, Entry, Errno, File, Fit, HasRank, HasTarget, Inode, InodeFields, IsInode, IsListed, IsName, IsReply, IsTarget, Kind, List, None, Option, Rank, Reply, Some, Symlink, Target, ap, append_assoc, arith, byte_at, cond, drop_at, eqb, false, fields_bytes, fields_of, flat_map, get_or, inode_numbers, inode_widths, inode_with, is_name, is_target, items_at, kind_byte, kind_of, le-ltb, leb, length, length-append, listed_bytes, little_bytes, long_part_at, ltb, mode_of, more_byte, more_of, name_decides, nat_tests, number_again, number_at, numbers_again, numbers_at, part_at, pin_number, pin_of, refl, reply_bytes, said_at, take_at, target_bytes, target_of, true, ℕ, ◌++◌, ◌+◌, ◌-◌, ◌<◌, ◌>>=◌, ◌^◌, ◌∙◌, ◌∷◌, ◌≡◌, ◌≤◌}
+use Rattle.reply_codec.specs.ReplyBytes.{inode_bytes}
 use Rattle.reply_codec.specs.Reading.{entries_at, entry_at, errno_at, fields_at, inode_at, inode_of, link_at, listed_at, name_at, reply_at, target_at}
 use Rattle.reply_codec.proofs.Items.{items_again}
 
@@ -56,7 +57,7 @@ abbrev pub fields_for : Inode → InodeFields
 fields_for inode = fields_of (inode_numbers inode) (target_of inode.kind)
 
 fields_again : (inode : Inode) (rest : List ℕ) → IsInode inode → fields_at (inode_bytes inode ++ rest) ≡ Some (fields_for inode, rest)
-unfolding fields_at
+unfolding fields_at inode_bytes
 fields_again inode rest is =
     let numbers = inode_numbers inode in
     let target = target_of inode.kind in

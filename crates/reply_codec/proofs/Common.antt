@@ -14,7 +14,7 @@ pub use Rattle.mds_types.specs.declared.inodes.Kind.{Kind}
 pub use Rattle.mds_types.specs.declared.inodes.Kind.TheVariants.{Dir, File, Symlink}
 pub use Rattle.mds_types.specs.declared.replies.Reply.{Reply}
 pub use Rattle.mds_types.specs.declared.replies.Reply.TheVariants.{Done, Entries, Entry, Errno, Target}
-pub use Rattle.reply_codec.specs.ReplyBytes.{HasRank, IsInode, IsListed, IsReply, SpellsReply, inode_bytes, inode_numbers, inode_widths, listed_bytes, more_byte, pin_number, reply_bytes, target_bytes}
+pub use Rattle.reply_codec.specs.ReplyBytes.{HasRank, IsInode, IsListed, IsReply, SpellsReply, inode_numbers, inode_widths, listed_bytes, more_byte, pin_number, reply_bytes, target_bytes}
 pub use Rattle.reply_codec.specs.Reading.{InodeFields, fields_of, inode_with, is_target, items_at, kind_of, listed_at, long_part_at, mode_of, more_of, part_at, pin_of, reply_at, said_at, short_part_at}
 pub use Rattle.std.proofs.Common.{Bool, List, None, Option, Some, [], ap, append_assoc, arith, cond, drop, drop-cons, eqb, false, get_or, leb, length, ltb, refl, rules, subst, suc, sym, take, true, zero, ℕ, ◌&&◌, ◌++◌, ◌+◌, ◌-◌, ◌<◌, ◌^◌, ◌∙◌, ◌∷◌, ◌≡◌, ◌≤◌}
 pub use Rattle.std.proofs.lemmas.Bool.{and_parts, eqb-true, le-ltb, ltb-false}
@@ -22,6 +22,7 @@ pub use Rattle.std.proofs.lemmas.Bool.Decides.{Decides-and, Decides-like, Decide
 pub use Rattle.std.proofs.lemmas.List.{append-nil, drop_at, length-append, length-take, nil_from_length, take-append-drop, take_at}
 pub use Rattle.std.proofs.lemmas.List.Concat.{flat_map-cons}
 pub use Rattle.std.proofs.lemmas.Option.{cond_some, none-some, same_Some}
+pub use Rattle.std.proofs.lemmas.Result.{on_ok_weaker}
 pub use Rattle.std.specs.Bool.{Decides}
 pub use Rattle.std.specs.List.{AllByRecursion, flat_map, list_all}
-pub use Rattle.std.specs.Prelude.{Err, IfOk, Ok, OnOk, Result}
+pub use Rattle.std.specs.Prelude.{Err, IfOk, Ok, OnOk, Result, is_ok}

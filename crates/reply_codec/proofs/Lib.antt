@@ -3,3 +3,4 @@ pub mod Common
 pub mod Items
 pub mod ReplyLaws
 pub mod Taken
+pub mod Written

@@ -1,5 +1,5 @@
 -- The laws of the format.
-use Rattle.reply_codec.proofs.Common.{Decodes, HasOneMeaning, IsBytes, List, None, NothingFollows, Option, Reply, Some, SpellsReply, [], ap, append-nil, none-some, reply_at, reply_bytes, same_Some, sym, ℕ, ◌++◌, ◌∙◌, ◌∷◌, ◌≡◌}
+use Rattle.reply_codec.proofs.Common.{Decodes, HasOneMeaning, IsBytes, List, None, NothingFollows, Reply, Some, SpellsReply, [], ap, append-nil, none-some, reply_at, reply_bytes, same_Some, sym, ℕ, ◌++◌, ◌∙◌, ◌≡◌}
 use Rattle.reply_codec.proofs.Again.{reply_again}
 use Rattle.reply_codec.proofs.Taken.{reply_takes}
 

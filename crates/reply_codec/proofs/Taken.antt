@@ -1,5 +1,6 @@
 -- What is read of a reply is what stands there.
-use Rattle.reply_codec.proofs.Common.{AllByRecursion, AreWidths, Bool, Dir, Done, Entries, Entry, Errno, File, Fit, HasRank, HasTarget, Inode, InodeFields, IsBytes, IsBytes-drop, IsInode, IsListed, IsName, IsReply, IsTarget, Kind, List, None, Option, Rank, Reply, Some, Symlink, Takes, Takes-then, Target, [], ap, append_assoc, arith, bind_some, byte_at, byte_takes, cond, cond_some, drop, eqb, eqb-true, false, fields_bytes, fields_of, flat_map, get_or, guard_not, inode_bytes, inode_numbers, inode_widths, inode_with, is_name, is_target, items_at, kind_byte, kind_of, leb, length, length-take, listed_bytes, little_bytes, long_part_at, ltb, ltb-false, mode_of, more_byte, more_of, name_decides, nat_tests, nil_from_length, number_at, number_takes, numbers_are, numbers_at, numbers_take, part_at, pin_number, pin_of, refl, reply_bytes, said_at, same_Some, short_part_at, subst, sym, take, take-append-drop, target_bytes, target_of, true, width_1, width_2, width_4, width_8, ℕ, ◌++◌, ◌+◌, ◌-◌, ◌<◌, ◌>>=◌, ◌^◌, ◌∙◌, ◌∷◌, ◌≡◌, ◌≤◌}
+use Rattle.reply_codec.proofs.Common.{AllByRecursion, AreWidths, Bool, Dir, Done, Entries, Entry, Errno, File, Fit, HasRank, HasTarget, Inode, InodeFields, IsBytes, IsBytes-drop, IsInode, IsListed, IsName, IsReply, IsTarget, Kind, List, None, Option, Rank, Reply, Some, Symlink, Takes, Takes-then, Target, [], ap, arith, bind_some, byte_at, byte_takes, cond, cond_some, drop, eqb, eqb-true, false, fields_bytes, fields_of, flat_map, get_or, guard_not, inode_numbers, inode_widths, inode_with, is_name, is_target, items_at, kind_byte, kind_of, leb, length, length-take, listed_bytes, little_bytes, long_part_at, ltb, ltb-false, mode_of, more_byte, more_of, name_decides, nat_tests, nil_from_length, number_at, number_takes, numbers_are, numbers_at, numbers_take, part_at, pin_number, pin_of, refl, reply_bytes, said_at, same_Some, short_part_at, subst, sym, take, take-append-drop, target_bytes, target_of, true, width_1, width_2, width_4, width_8, ℕ, ◌++◌, ◌+◌, ◌-◌, ◌<◌, ◌>>=◌, ◌^◌, ◌∙◌, ◌∷◌, ◌≡◌, ◌≤◌}
+use Rattle.reply_codec.specs.ReplyBytes.{inode_bytes}
 use Rattle.reply_codec.specs.Reading.{entries_at, entry_at, errno_at, fields_at, inode_at, inode_of, link_at, listed_at, name_at, reply_at, target_at}
 use Rattle.reply_codec.proofs.Again.{target_decides}
 use Rattle.reply_codec.proofs.Items.{items_take}
@@ -147,6 +148,7 @@ inode_known n target mode pin kind fit few ranked targeted =
     }
 
 inode_joined : (bytes : List ℕ) (f : InodeFields) (rest : List ℕ) (inode : Inode) → FieldsTaken bytes f rest → InodeTaken f inode → IsInode inode × Takes bytes (inode_bytes inode) rest
+unfolding inode_bytes
 inode_joined bytes f rest inode a b =
     let P : InodeFields → Type 0 = λ g. InodeTaken g inode in
     let b = subst P (sym a.is) b in

@@ -58,7 +58,7 @@ abbrev pub inode_widths : List ℕ
 inode_widths = 1 ∷ 8 ∷ 8 ∷ 8 ∷ 4 ∷ 4 ∷ 2 ∷ 2 ∷ 2 ∷ []
 
 -- an inode: its numbers, and the target of a link
-abbrev pub inode_bytes : Inode → List ℕ
+unfoldable pub inode_bytes : Inode → List ℕ
 inode_bytes inode = fields_bytes inode_widths (inode_numbers inode) ++ target_of inode.kind
 
 -- a name behind its length, and its inode
