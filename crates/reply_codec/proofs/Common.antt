@@ -1,7 +1,7 @@
 -- Names of other crates, and of this one's definitions, as the proofs of this crate take them.
 pub use Rattle.byteorder.specs.Endian.{little_bytes}
 pub use Rattle.dirfrag_codec.proofs.FieldLaws.{AreWidths, Fit, numbers_again, numbers_are, numbers_take}
-pub use Rattle.dirfrag_codec.proofs.Front.{IsBytes, IsBytes-drop, Takes, Takes-then, bind_some, byte_takes, guard_not, number_again, number_takes, width_1, width_2, width_4, width_8}
+pub use Rattle.dirfrag_codec.proofs.Front.{IsWidth, IsBytes, IsBytes-drop, Takes, Takes-then, bind_some, byte_takes, guard_not, number_again, number_takes, width_1, width_2, width_4, width_8}
 pub use Rattle.dirfrag_codec.proofs.ValueLaws.{name_decides}
 pub use Rattle.dirfrag_codec.specs.EntryRecord.{HasTarget, HasWidths, fields_bytes, kind_byte, target_of}
 pub use Rattle.dirfrag_codec.specs.Grammar.{Decodes, HasOneMeaning, NothingFollows}
@@ -14,8 +14,8 @@ pub use Rattle.mds_types.specs.declared.inodes.Kind.{Kind}
 pub use Rattle.mds_types.specs.declared.inodes.Kind.TheVariants.{Dir, File, Symlink}
 pub use Rattle.mds_types.specs.declared.replies.Reply.{Reply}
 pub use Rattle.mds_types.specs.declared.replies.Reply.TheVariants.{Done, Entries, Entry, Errno, Target}
-pub use Rattle.reply_codec.specs.ReplyBytes.{HasRank, IsInode, IsListed, IsReply, SpellsReply, inode_numbers, inode_widths, listed_bytes, more_byte, pin_number, reply_bytes, target_bytes}
-pub use Rattle.reply_codec.specs.Reading.{InodeFields, fields_of, inode_with, is_target, items_at, kind_of, listed_at, long_part_at, mode_of, more_of, part_at, pin_of, reply_at, said_at, short_part_at}
+pub use Rattle.reply_codec.specs.ReplyBytes.{HasRank, IsInode, IsListed, IsReply, SpellsReply, inode_numbers, inode_widths, listed_bytes, more_byte, pin_number, reply_bytes, counted_bytes}
+pub use Rattle.reply_codec.specs.Reading.{InodeFields, plain_fields, inode_from, is_target, list_at, kind_from, listed_at, mode_from, more_of, bytes_at, counted_at, pin_from, reply_at, said_at}
 pub use Rattle.std.proofs.Common.{Bool, List, None, Option, Some, [], ap, append_assoc, arith, cond, drop, drop-cons, eqb, false, get_or, leb, length, ltb, refl, rules, subst, suc, sym, take, true, zero, ℕ, ◌&&◌, ◌++◌, ◌+◌, ◌-◌, ◌<◌, ◌^◌, ◌∙◌, ◌∷◌, ◌≡◌, ◌≤◌}
 pub use Rattle.std.proofs.lemmas.Bool.{and_parts, eqb-true, le-ltb, ltb-false}
 pub use Rattle.std.proofs.lemmas.Bool.Decides.{Decides-and, Decides-like, Decides-ltb, nat_tests}

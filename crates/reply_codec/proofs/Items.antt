@@ -1,56 +1,57 @@
--- Items that are read, and written, one after another.
-use Rattle.reply_codec.proofs.Common.{AllByRecursion, IsBytes, List, None, Option, Some, Takes, Takes-then, [], ap, append_assoc, arith, bind_some, drop, drop-cons, flat_map, flat_map-cons, get_or, items_at, length, length-append, refl, same_Some, subst, suc, sym, zero, ℕ, ◌++◌, ◌+◌, ◌-◌, ◌<◌, ◌>>=◌, ◌∙◌, ◌∷◌, ◌≡◌}
+-- Names with their inodes that are read, and items that are written, one after another.
+use Rattle.reply_codec.proofs.Common.{AllByRecursion, Inode, IsBytes, IsListed, List, None, Option, Some, Takes, Takes-then, [], ap, append_assoc, arith, bind_some, drop, drop-cons, flat_map, flat_map-cons, get_or, length, length-append, list_at, listed_at, listed_bytes, refl, same_Some, subst, suc, sym, zero, ℕ, ◌++◌, ◌+◌, ◌-◌, ◌<◌, ◌>>=◌, ◌∙◌, ◌∷◌, ◌≡◌}
+
+abbrev pub Listed : Type 0
+Listed = List ℕ × Inode
 
 -- what was read, with more in front of it
-abbrev pub preceded : {A : Type 0} → List A → Option (List A × List ℕ) → Option (List A × List ℕ)
+abbrev pub preceded : List Listed → Option (List Listed × List ℕ) → Option (List Listed × List ℕ)
 preceded front None = None
 preceded front (Some (more, rest)) = Some (front ++ more, rest)
 
-module _ {A : Type 0} (item_at : List ℕ → Option (A × List ℕ)) where
-  one_behind : (front : List A) (x : A) (more : Option (List A × List ℕ)) → preceded front (more >>= λ m. Some (x ∷ m.0, m.1)) ≡ preceded (front ++ x ∷ []) more
-  one_behind front x None = refl
-  one_behind front x (Some (xs, rest)) = ap (λ (ys : List A). Some (ys, rest)) (sym (append_assoc front (x ∷ []) xs))
+one_behind : (front : List Listed) (x : Listed) (more : Option (List Listed × List ℕ)) → preceded front (more >>= λ m. Some (x ∷ m.0, m.1)) ≡ preceded (front ++ x ∷ []) more
+one_behind front x None = refl
+one_behind front x (Some (xs, rest)) = ap (λ (ys : List Listed). Some (ys, rest)) (sym (append_assoc front (x ∷ []) xs))
 
-  next_left : (count : ℕ) (front : List A) (x : A) → length front < count → count - length front ≡ suc (count - length (front ++ x ∷ []))
-  next_left count front x less = omega (arith, length-append front (x ∷ []))
+next_left : (count : ℕ) (front : List Listed) (x : Listed) → length front < count → count - length front ≡ suc (count - length (front ++ x ∷ []))
+next_left count front x less = omega (arith, length-append front (x ∷ []))
 
-  -- one item more is read
-  pub one_more : (count : ℕ) (total : Option (List A × List ℕ)) (front : List A) (rest after : List ℕ) (x : A) → length front < count → item_at rest ≡ Some (x, after)
-      → total ≡ preceded front (items_at item_at (count - length front) rest) → total ≡ preceded (front ++ x ∷ []) (items_at item_at (count - length (front ++ x ∷ [])) after)
-  one_more count total front rest after x less read parts =
-      let left = count - length (front ++ x ∷ []) in
-      parts ∙ ap (λ (n : ℕ). preceded front (items_at item_at n rest)) (next_left count front x less)
-      ∙ ap (λ (r : Option (A × List ℕ)). preceded front (r >>= λ first. items_at item_at left first.1 >>= λ more. Some (first.0 ∷ more.0, more.1))) read
-      ∙ one_behind front x (items_at item_at left after)
+-- one name more is read
+pub one_more : (count : ℕ) (total : Option (List Listed × List ℕ)) (front : List Listed) (rest after : List ℕ) (x : Listed) → length front < count → listed_at rest ≡ Some (x, after)
+    → total ≡ preceded front (list_at (count - length front) rest) → total ≡ preceded (front ++ x ∷ []) (list_at (count - length (front ++ x ∷ [])) after)
+one_more count total front rest after x less read parts =
+    let left = count - length (front ++ x ∷ []) in
+    parts ∙ ap (λ (n : ℕ). preceded front (list_at n rest)) (next_left count front x less)
+    ∙ ap (λ (r : Option (Listed × List ℕ)). preceded front (r >>= λ first. list_at left first.1 >>= λ more. Some (first.0 ∷ more.0, more.1))) read
+    ∙ one_behind front x (list_at left after)
 
-  module _ (spell : A → List ℕ) (Fits : A → Type 0) where
-    -- items that are written are read again
-    pub items_again : ((x : A) (rest : List ℕ) → Fits x → item_at (spell x ++ rest) ≡ Some (x, rest)) → (xs : List A) (rest : List ℕ) → AllByRecursion Fits xs
-        → items_at item_at (length xs) (flat_map spell xs ++ rest) ≡ Some (xs, rest)
-    items_again again [] rest all = refl
-    items_again again (x ∷ xs) rest (fits, all) =
-        let parts : flat_map spell (x ∷ xs) ++ rest ≡ spell x ++ (flat_map spell xs ++ rest) = ap (λ (t : List ℕ). t ++ rest) (flat_map-cons spell x xs) ∙ append_assoc (spell x) (flat_map spell xs) rest in
-        let first : item_at (flat_map spell (x ∷ xs) ++ rest) ≡ Some (x, flat_map spell xs ++ rest) = ap item_at parts ∙ again x (flat_map spell xs ++ rest) fits in
-        ap (λ (r : Option (A × List ℕ)). r >>= λ first. items_at item_at (length xs) first.1 >>= λ more. Some (first.0 ∷ more.0, more.1)) first
-        ∙ ap (λ (r : Option (List A × List ℕ)). r >>= λ more. Some (x ∷ more.0, more.1)) (items_again again xs rest all)
+-- names that are written are read again
+pub list_again : ((x : Listed) (rest : List ℕ) → IsListed x → listed_at (listed_bytes x ++ rest) ≡ Some (x, rest)) → (xs : List Listed) (rest : List ℕ) → AllByRecursion IsListed xs
+    → list_at (length xs) (flat_map listed_bytes xs ++ rest) ≡ Some (xs, rest)
+list_again again [] rest all = refl
+list_again again (x ∷ xs) rest (known, all) =
+    let others = flat_map listed_bytes xs ++ rest in
+    let parts : flat_map listed_bytes (x ∷ xs) ++ rest ≡ listed_bytes x ++ others = ap (λ (t : List ℕ). t ++ rest) (flat_map-cons listed_bytes x xs) ∙ append_assoc (listed_bytes x) (flat_map listed_bytes xs) rest in
+    let first : listed_at (flat_map listed_bytes (x ∷ xs) ++ rest) ≡ Some (x, others) = ap listed_at parts ∙ again x others known in
+    ap (λ (r : Option (Listed × List ℕ)). r >>= λ first. list_at (length xs) first.1 >>= λ more. Some (first.0 ∷ more.0, more.1)) first
+    ∙ ap (λ (r : Option (List Listed × List ℕ)). r >>= λ more. Some (x ∷ more.0, more.1)) (list_again again xs rest all)
 
-    -- items that are read are those that stand there
-    pub items_take : ((bytes : List ℕ) (x : A) (rest : List ℕ) → IsBytes bytes → item_at bytes ≡ Some (x, rest) → Fits x × Takes bytes (spell x) rest)
-        → (n : ℕ) (bytes : List ℕ) (xs : List A) (rest : List ℕ) → IsBytes bytes → items_at item_at n bytes ≡ Some (xs, rest)
-        → (length xs ≡ n) × AllByRecursion Fits xs × Takes bytes (flat_map spell xs) rest
-    items_take takes zero bytes xs rest fits read =
-        let e : ([], bytes) ≡ (xs, rest) = same_Some ([], bytes) (xs, rest) read in
-        let P : List A × List ℕ → Type 0 = λ p. (length p.0 ≡ 0) × AllByRecursion Fits p.0 × Takes bytes (flat_map spell p.0) p.1 in
-        subst P e (refl, tt, record { parts = refl; rest_fits = fits })
-    items_take takes (suc n) bytes xs rest fits read =
-        let a = bind_some (item_at bytes) (λ first. items_at item_at n first.1 >>= λ more. Some (first.0 ∷ more.0, more.1)) (xs, rest) read in
-        let b = bind_some (items_at item_at n a.0.1) (λ more. Some (a.0.0 ∷ more.0, more.1)) (xs, rest) a.2 in
-        let one = takes bytes a.0.0 a.0.1 fits a.1 in
-        let others = items_take takes n a.0.1 b.0.0 b.0.1 one.1.rest_fits b.1 in
-        let e : (a.0.0 ∷ b.0.0, b.0.1) ≡ (xs, rest) = same_Some (a.0.0 ∷ b.0.0, b.0.1) (xs, rest) b.2 in
-        let P : List A × List ℕ → Type 0 = λ p. (length p.0 ≡ suc n) × AllByRecursion Fits p.0 × Takes bytes (flat_map spell p.0) p.1 in
-        let both_taken = Takes-then bytes (spell a.0.0) a.0.1 (flat_map spell b.0.0) b.0.1 one.1 others.2 in
-        subst P e (ap (λ (k : ℕ). suc k) others.0, (one.0, others.1), subst (λ (t : List ℕ). Takes bytes t b.0.1) (sym (flat_map-cons spell a.0.0 b.0.0)) both_taken)
+-- what was read of a list
+abbrev pub ListTaken : ℕ → List ℕ → List Listed × List ℕ → Type 0
+ListTaken n bytes p = (length p.0 ≡ n) × AllByRecursion IsListed p.0 × Takes bytes (flat_map listed_bytes p.0) p.1
+
+-- names that are read are those that stand there
+pub list_takes : ((bytes : List ℕ) (x : Listed) (rest : List ℕ) → IsBytes bytes → listed_at bytes ≡ Some (x, rest) → IsListed x × Takes bytes (listed_bytes x) rest)
+    → (n : ℕ) (bytes : List ℕ) (xs : List Listed) (rest : List ℕ) → IsBytes bytes → list_at n bytes ≡ Some (xs, rest) → ListTaken n bytes (xs, rest)
+list_takes takes zero bytes xs rest fits read = subst (ListTaken 0 bytes) (same_Some ([], bytes) (xs, rest) read) (refl, tt, record { parts = refl; rest_fits = fits })
+list_takes takes (suc n) bytes xs rest fits read =
+    let a = bind_some (listed_at bytes) (λ first. list_at n first.1 >>= λ more. Some (first.0 ∷ more.0, more.1)) (xs, rest) read in
+    let b = bind_some (list_at n a.0.1) (λ more. Some (a.0.0 ∷ more.0, more.1)) (xs, rest) a.2 in
+    let one = takes bytes a.0.0 a.0.1 fits a.1 in
+    let others = list_takes takes n a.0.1 b.0.0 b.0.1 one.1.rest_fits b.1 in
+    let both_taken = Takes-then bytes (listed_bytes a.0.0) a.0.1 (flat_map listed_bytes b.0.0) b.0.1 one.1 others.2 in
+    subst (ListTaken (suc n) bytes) (same_Some (a.0.0 ∷ b.0.0, b.0.1) (xs, rest) b.2)
+    (ap (λ (k : ℕ). suc k) others.0, (one.0, others.1), subst (λ (t : List ℕ). Takes bytes t b.0.1) (sym (flat_map-cons listed_bytes a.0.0 b.0.0)) both_taken)
 
 -- ---- items that are written one after another
 

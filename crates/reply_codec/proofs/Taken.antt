@@ -1,50 +1,50 @@
 -- What is read of a reply is what stands there.
-use Rattle.reply_codec.proofs.Common.{AllByRecursion, AreWidths, Bool, Dir, Done, Entries, Entry, Errno, File, Fit, HasRank, HasTarget, Inode, InodeFields, IsBytes, IsBytes-drop, IsInode, IsListed, IsName, IsReply, IsTarget, Kind, List, None, Option, Rank, Reply, Some, Symlink, Takes, Takes-then, Target, [], ap, arith, bind_some, byte_at, byte_takes, cond, cond_some, drop, eqb, eqb-true, false, fields_bytes, fields_of, flat_map, get_or, guard_not, inode_numbers, inode_widths, inode_with, is_name, is_target, items_at, kind_byte, kind_of, leb, length, length-take, listed_bytes, little_bytes, long_part_at, ltb, ltb-false, mode_of, more_byte, more_of, name_decides, nat_tests, nil_from_length, number_at, number_takes, numbers_are, numbers_at, numbers_take, part_at, pin_number, pin_of, refl, reply_bytes, said_at, same_Some, short_part_at, subst, sym, take, take-append-drop, target_bytes, target_of, true, width_1, width_2, width_4, width_8, ℕ, ◌++◌, ◌+◌, ◌-◌, ◌<◌, ◌>>=◌, ◌^◌, ◌∙◌, ◌∷◌, ◌≡◌, ◌≤◌}
-use Rattle.reply_codec.specs.ReplyBytes.{inode_bytes}
-use Rattle.reply_codec.specs.Reading.{entries_at, entry_at, errno_at, fields_at, inode_at, inode_of, link_at, listed_at, name_at, reply_at, target_at}
+use Rattle.reply_codec.proofs.Common.{AllByRecursion, AreWidths, Bool, Dir, Done, Entries, Entry, Errno, File, Fit, HasRank, HasTarget, Inode, InodeFields, IsBytes, IsBytes-drop, IsInode, IsListed, IsName, IsReply, IsTarget, IsWidth, Kind, List, None, Option, Rank, Reply, Some, Symlink, Takes, Takes-then, Target, [], ap, arith, bind_some, byte_at, byte_takes, bytes_at, cond, cond_some, counted_at, counted_bytes, drop, eqb, eqb-true, false, fields_bytes, flat_map, get_or, guard_not, inode_from, inode_numbers, inode_widths, is_name, is_target, kind_byte, kind_from, leb, length, length-take, list_at, listed_bytes, little_bytes, ltb, ltb-false, mode_from, more_byte, more_of, name_decides, nat_tests, nil_from_length, number_at, number_takes, numbers_are, numbers_at, numbers_take, pin_from, pin_number, plain_fields, refl, reply_bytes, said_at, same_Some, subst, sym, take, take-append-drop, target_of, true, width_1, width_2, width_4, width_8, ℕ, ◌++◌, ◌+◌, ◌-◌, ◌<◌, ◌>>=◌, ◌^◌, ◌∙◌, ◌∷◌, ◌≡◌, ◌≤◌}
+use Rattle.reply_codec.specs.ReplyBytes.{plain_bytes}
+use Rattle.reply_codec.specs.Reading.{listing_at, found_at, errno_at, plain_fields_at, plain_inode_at, inode_said, link_at, listed_at, entry_name_at, reply_at, target_at}
 use Rattle.reply_codec.proofs.Again.{target_decides}
-use Rattle.reply_codec.proofs.Items.{items_take}
+use Rattle.reply_codec.proofs.Items.{Listed, list_takes}
 
-part_takes : (n : ℕ) (bytes x rest : List ℕ) → IsBytes bytes → part_at n bytes ≡ Some (x, rest) → (length x ≡ n) × Takes bytes x rest
+part_takes : (n : ℕ) (bytes x rest : List ℕ) → IsBytes bytes → bytes_at n bytes ≡ Some (x, rest) → (length x ≡ n) × Takes bytes x rest
 part_takes n bytes x rest fits read =
     let g = guard_not (ltb (length bytes) n) (take n bytes, drop n bytes) (x, rest) read in
     let long : n ≤ length bytes = ltb-false _ _ g.0 in
     let P : List ℕ × List ℕ → Type 0 = λ p. (length p.0 ≡ n) × Takes bytes p.0 p.1 in
     subst P g.1 (omega (arith, length-take n bytes), record { parts = sym (take-append-drop n bytes); rest_fits = IsBytes-drop n bytes fits })
 
-name_takes : (bytes x rest : List ℕ) → IsBytes bytes → name_at bytes ≡ Some (x, rest) → IsName x × Takes bytes (length x ∷ x) rest
-unfolding name_at
-name_takes bytes x rest fits read =
-    let a = bind_some (short_part_at bytes) (λ part. cond (is_name part.0) (Some part) None) (x, rest) read in
-    let b = bind_some (byte_at bytes) (λ len. part_at len.0 len.1) a.0 a.1 in
-    let g = cond_some (is_name a.0.0) a.0 (x, rest) a.2 in
-    let t = byte_takes bytes b.0.0 b.0.1 fits b.1 in
-    let p = part_takes b.0.0 b.0.1 a.0.0 a.0.1 t.rest_fits b.2 in
-    let whole : Takes bytes (b.0.0 ∷ a.0.0) a.0.1 = Takes-then bytes (b.0.0 ∷ []) b.0.1 a.0.0 a.0.1 t p.1 in
-    let P : List ℕ × List ℕ → Type 0 = λ q. IsName q.0 × Takes bytes (length q.0 ∷ q.0) q.1 in
-    subst P g.1 ((name_decides a.0.0).0 g.0, subst (λ (k : ℕ). Takes bytes (k ∷ a.0.0) a.0.1) (sym p.0) whole)
+counted_takes : (width : ℕ) (known : IsWidth width) (bytes x rest : List ℕ) → IsBytes bytes → counted_at width bytes ≡ Some (x, rest) → Takes bytes (counted_bytes width x) rest
+counted_takes width known bytes x rest fits read =
+    let a = bind_some (number_at width bytes) (λ len. bytes_at len.0 len.1) (x, rest) read in
+    let t = number_takes width known bytes a.0.0 a.0.1 fits a.1 in
+    let p = part_takes a.0.0 a.0.1 x rest t.0.rest_fits a.2 in
+    let whole : Takes bytes (little_bytes width a.0.0 ++ x) rest = Takes-then bytes (little_bytes width a.0.0) a.0.1 x rest t.0 p.1 in
+    subst (λ (k : ℕ). Takes bytes (little_bytes width k ++ x) rest) (sym p.0) whole
 
-target_takes : (bytes x rest : List ℕ) → IsBytes bytes → target_at bytes ≡ Some (x, rest) → IsTarget x × Takes bytes (target_bytes x) rest
+name_takes : (bytes x rest : List ℕ) → IsBytes bytes → entry_name_at bytes ≡ Some (x, rest) → IsName x × Takes bytes (counted_bytes 1 x) rest
+unfolding entry_name_at
+name_takes bytes x rest fits read =
+    let a = bind_some (counted_at 1 bytes) (λ part. cond (is_name part.0) (Some part) None) (x, rest) read in
+    let g = cond_some (is_name a.0.0) a.0 (x, rest) a.2 in
+    let P : List ℕ × List ℕ → Type 0 = λ q. IsName q.0 × Takes bytes (counted_bytes 1 q.0) q.1 in
+    subst P g.1 ((name_decides a.0.0).0 g.0, counted_takes 1 width_1 bytes a.0.0 a.0.1 fits a.1)
+
+target_takes : (bytes x rest : List ℕ) → IsBytes bytes → target_at bytes ≡ Some (x, rest) → IsTarget x × Takes bytes (counted_bytes 2 x) rest
 unfolding target_at
 target_takes bytes x rest fits read =
-    let a = bind_some (long_part_at bytes) (λ part. cond (is_target part.0) (Some part) None) (x, rest) read in
-    let b = bind_some (number_at 2 bytes) (λ len. part_at len.0 len.1) a.0 a.1 in
+    let a = bind_some (counted_at 2 bytes) (λ part. cond (is_target part.0) (Some part) None) (x, rest) read in
     let g = cond_some (is_target a.0.0) a.0 (x, rest) a.2 in
-    let t = number_takes 2 width_2 bytes b.0.0 b.0.1 fits b.1 in
-    let p = part_takes b.0.0 b.0.1 a.0.0 a.0.1 t.0.rest_fits b.2 in
-    let whole : Takes bytes (little_bytes 2 b.0.0 ++ a.0.0) a.0.1 = Takes-then bytes (little_bytes 2 b.0.0) b.0.1 a.0.0 a.0.1 t.0 p.1 in
-    let P : List ℕ × List ℕ → Type 0 = λ q. IsTarget q.0 × Takes bytes (target_bytes q.0) q.1 in
-    subst P g.1 ((target_decides a.0.0).0 g.0, subst (λ (k : ℕ). Takes bytes (little_bytes 2 k ++ a.0.0) a.0.1) (sym p.0) whole)
+    let P : List ℕ × List ℕ → Type 0 = λ q. IsTarget q.0 × Takes bytes (counted_bytes 2 q.0) q.1 in
+    subst P g.1 ((target_decides a.0.0).0 g.0, counted_takes 2 width_2 bytes a.0.0 a.0.1 fits a.1)
 
 -- ---- inodes
 
-mode_takes : (bits mode : ℕ) → mode_of bits ≡ Some mode → (mode ≤ 4095) × (mode ≡ bits)
+mode_takes : (bits mode : ℕ) → mode_from bits ≡ Some mode → (mode ≤ 4095) × (mode ≡ bits)
 mode_takes bits mode e =
     let g = cond_some (leb bits 4095) bits mode e in
     let few : bits ≤ 4095 = grind (arith, nat_tests, g.0) in
     subst (λ (m : ℕ). (m ≤ 4095) × (m ≡ bits)) g.1 (few, refl)
 
-pin_takes : (number : ℕ) (pin : Option Rank) → pin_of number ≡ Some pin → HasRank pin × (pin_number pin ≡ number)
+pin_takes : (number : ℕ) (pin : Option Rank) → pin_from number ≡ Some pin → HasRank pin × (pin_number pin ≡ number)
 pin_takes number pin e = go (eqb number 0) (leb number 256) refl refl e
   where
     P : Option Rank → Type 0
@@ -63,7 +63,7 @@ record KindTaken (byte : ℕ) (target : List ℕ) (kind : Kind) : Type 0 where
   byte_is : kind_byte kind ≡ byte
   target_is : target_of kind ≡ target
 
-kind_takes : (byte : ℕ) (target : List ℕ) (kind : Kind) → kind_of byte target ≡ Some kind → KindTaken byte target kind
+kind_takes : (byte : ℕ) (target : List ℕ) (kind : Kind) → kind_from byte target ≡ Some kind → KindTaken byte target kind
 kind_takes byte target kind e = go (eqb byte 3) (is_target target) (eqb (length target) 0) (eqb byte 1) (eqb byte 2) refl refl refl refl refl e
   where
     go : (l t n f d : Bool) → eqb byte 3 ≡ l → is_target target ≡ t → eqb (length target) 0 ≡ n → eqb byte 1 ≡ f → eqb byte 2 ≡ d
@@ -85,21 +85,21 @@ record FieldsTaken (bytes : List ℕ) (f : InodeFields) (rest : List ℕ) : Type
   fit : Fit inode_widths numbers
   len : length target ≡ get_or numbers 8 0
   taken : Takes bytes (fields_bytes inode_widths numbers ++ target) rest
-  is : fields_of numbers target ≡ f
+  is : plain_fields numbers target ≡ f
 
 widths_known : AreWidths inode_widths
 widths_known = (width_1, (width_8, (width_8, (width_8, (width_4, (width_4, (width_2, (width_2, (width_2, tt)))))))))
 
-fields_takes : (bytes : List ℕ) (f : InodeFields) (rest : List ℕ) → IsBytes bytes → fields_at bytes ≡ Some (f, rest) → FieldsTaken bytes f rest
-unfolding fields_at
+fields_takes : (bytes : List ℕ) (f : InodeFields) (rest : List ℕ) → IsBytes bytes → plain_fields_at bytes ≡ Some (f, rest) → FieldsTaken bytes f rest
+unfolding plain_fields_at
 fields_takes bytes f rest fits read =
-    let a = bind_some (numbers_at inode_widths bytes) (λ n. part_at (get_or n.0 8 0) n.1 >>= λ t. Some (fields_of n.0 t.0, t.1)) (f, rest) read in
-    let b = bind_some (part_at (get_or a.0.0 8 0) a.0.1) (λ t. Some (fields_of a.0.0 t.0, t.1)) (f, rest) a.2 in
+    let a = bind_some (numbers_at inode_widths bytes) (λ n. bytes_at (get_or n.0 8 0) n.1 >>= λ t. Some (plain_fields n.0 t.0, t.1)) (f, rest) read in
+    let b = bind_some (bytes_at (get_or a.0.0 8 0) a.0.1) (λ t. Some (plain_fields a.0.0 t.0, t.1)) (f, rest) a.2 in
     let n = numbers_take inode_widths bytes a.0.0 a.0.1 widths_known fits a.1 in
     let p = part_takes (get_or a.0.0 8 0) a.0.1 b.0.0 b.0.1 n.rest_fits b.1 in
     let front : Takes bytes (fields_bytes inode_widths a.0.0) a.0.1 = record { parts = n.parts; rest_fits = n.rest_fits } in
     let P : InodeFields × List ℕ → Type 0 = λ q. FieldsTaken bytes q.0 q.1 in
-    subst P (same_Some (fields_of a.0.0 b.0.0, b.0.1) (f, rest) b.2)
+    subst P (same_Some (plain_fields a.0.0 b.0.0, b.0.1) (f, rest) b.2)
     (record { numbers = a.0.0; target = b.0.0; fit = n.fit; len = p.0; taken = Takes-then bytes (fields_bytes inode_widths a.0.0) a.0.1 b.0.0 b.0.1 front p.1; is = refl })
 
 -- an inode of these fields
@@ -110,14 +110,14 @@ record InodeTaken (f : InodeFields) (inode : Inode) : Type 0 where
   mode_is : (mode ≤ 4095) × (mode ≡ f.mode)
   pin_is : HasRank pin × (pin_number pin ≡ f.pin)
   kind_is : KindTaken f.kind f.target kind
-  is : inode_with f mode pin kind ≡ inode
+  is : inode_from f mode pin kind ≡ inode
 
-inode_of_takes : (f : InodeFields) (inode : Inode) → inode_of f ≡ Some inode → InodeTaken f inode
-unfolding inode_of
+inode_of_takes : (f : InodeFields) (inode : Inode) → inode_said f ≡ Some inode → InodeTaken f inode
+unfolding inode_said
 inode_of_takes f inode e =
-    let a = bind_some (mode_of f.mode) (λ mode. pin_of f.pin >>= λ pin. kind_of f.kind f.target >>= λ kind. Some (inode_with f mode pin kind)) inode e in
-    let b = bind_some (pin_of f.pin) (λ pin. kind_of f.kind f.target >>= λ kind. Some (inode_with f a.0 pin kind)) inode a.2 in
-    let d = bind_some (kind_of f.kind f.target) (λ kind. Some (inode_with f a.0 b.0 kind)) inode b.2 in
+    let a = bind_some (mode_from f.mode) (λ mode. pin_from f.pin >>= λ pin. kind_from f.kind f.target >>= λ kind. Some (inode_from f mode pin kind)) inode e in
+    let b = bind_some (pin_from f.pin) (λ pin. kind_from f.kind f.target >>= λ kind. Some (inode_from f a.0 pin kind)) inode a.2 in
+    let d = bind_some (kind_from f.kind f.target) (λ kind. Some (inode_from f a.0 b.0 kind)) inode b.2 in
     record {
       mode = a.0;
       pin = b.0;
@@ -125,17 +125,17 @@ inode_of_takes f inode e =
       mode_is = mode_takes f.mode a.0 a.1;
       pin_is = pin_takes f.pin b.0 b.1;
       kind_is = kind_takes f.kind f.target d.0 d.1;
-      is = same_Some (inode_with f a.0 b.0 d.0) inode d.2;
+      is = same_Some (inode_from f a.0 b.0 d.0) inode d.2;
     }
 
 -- numbers that were read are those of the inode that was made of them
 numbers_same : (n target : List ℕ) (mode : ℕ) (pin : Option Rank) (kind : Kind) → Fit inode_widths n → length target ≡ get_or n 8 0 → mode ≡ get_or n 6 0 → pin_number pin ≡ get_or n 7 0
-    → kind_byte kind ≡ get_or n 0 0 → target_of kind ≡ target → n ≡ inode_numbers (inode_with (fields_of n target) mode pin kind)
+    → kind_byte kind ≡ get_or n 0 0 → target_of kind ≡ target → n ≡ inode_numbers (inode_from (plain_fields n target) mode pin kind)
 numbers_same n target mode pin kind fit len mode_is pin_is kind_is target_is =
     numbers_are inode_widths n fit
     ∙ (λ i. sym kind_is i ∷ get_or n 1 0 ∷ get_or n 2 0 ∷ get_or n 3 0 ∷ get_or n 4 0 ∷ get_or n 5 0 ∷ sym mode_is i ∷ sym pin_is i ∷ (sym len ∙ ap (λ (t : List ℕ). length t) (sym target_is)) i ∷ [])
 
-inode_known : (n target : List ℕ) (mode : ℕ) (pin : Option Rank) (kind : Kind) → Fit inode_widths n → mode ≤ 4095 → HasRank pin → HasTarget kind → IsInode (inode_with (fields_of n target) mode pin kind)
+inode_known : (n target : List ℕ) (mode : ℕ) (pin : Option Rank) (kind : Kind) → Fit inode_widths n → mode ≤ 4095 → HasRank pin → HasTarget kind → IsInode (inode_from (plain_fields n target) mode pin kind)
 inode_known n target mode pin kind fit few ranked targeted =
     let same = numbers_are inode_widths n fit in
     let fits = subst (Fit inode_widths) same fit in
@@ -147,39 +147,36 @@ inode_known n target mode pin kind fit few ranked targeted =
       target = targeted;
     }
 
-inode_joined : (bytes : List ℕ) (f : InodeFields) (rest : List ℕ) (inode : Inode) → FieldsTaken bytes f rest → InodeTaken f inode → IsInode inode × Takes bytes (inode_bytes inode) rest
-unfolding inode_bytes
+inode_joined : (bytes : List ℕ) (f : InodeFields) (rest : List ℕ) (inode : Inode) → FieldsTaken bytes f rest → InodeTaken f inode → IsInode inode × Takes bytes (plain_bytes inode) rest
+unfolding plain_bytes
 inode_joined bytes f rest inode a b =
     let P : InodeFields → Type 0 = λ g. InodeTaken g inode in
     let b = subst P (sym a.is) b in
-    let made : Inode = inode_with (fields_of a.numbers a.target) b.mode b.pin b.kind in
+    let made : Inode = inode_from (plain_fields a.numbers a.target) b.mode b.pin b.kind in
     let same : a.numbers ≡ inode_numbers made = numbers_same a.numbers a.target b.mode b.pin b.kind a.fit a.len b.mode_is.1 b.pin_is.1 b.kind_is.byte_is b.kind_is.target_is in
     let by_numbers : Takes bytes (fields_bytes inode_widths (inode_numbers made) ++ a.target) rest = subst (λ (n : List ℕ). Takes bytes (fields_bytes inode_widths n ++ a.target) rest) same a.taken in
-    let whole : Takes bytes (inode_bytes made) rest = subst (λ (t : List ℕ). Takes bytes (fields_bytes inode_widths (inode_numbers made) ++ t) rest) (sym b.kind_is.target_is) by_numbers in
-    let Q : Inode → Type 0 = λ i. IsInode i × Takes bytes (inode_bytes i) rest in
+    let whole : Takes bytes (plain_bytes made) rest = subst (λ (t : List ℕ). Takes bytes (fields_bytes inode_widths (inode_numbers made) ++ t) rest) (sym b.kind_is.target_is) by_numbers in
+    let Q : Inode → Type 0 = λ i. IsInode i × Takes bytes (plain_bytes i) rest in
     subst Q b.is (inode_known a.numbers a.target b.mode b.pin b.kind a.fit b.mode_is.0 b.pin_is.0 b.kind_is.known, whole)
 
-inode_takes : (bytes : List ℕ) (inode : Inode) (rest : List ℕ) → IsBytes bytes → inode_at bytes ≡ Some (inode, rest) → IsInode inode × Takes bytes (inode_bytes inode) rest
-unfolding inode_at
+inode_takes : (bytes : List ℕ) (inode : Inode) (rest : List ℕ) → IsBytes bytes → plain_inode_at bytes ≡ Some (inode, rest) → IsInode inode × Takes bytes (plain_bytes inode) rest
+unfolding plain_inode_at
 inode_takes bytes inode rest fits read =
-    let a = bind_some (fields_at bytes) (λ f. inode_of f.0 >>= λ i. Some (i, f.1)) (inode, rest) read in
-    let b = bind_some (inode_of a.0.0) (λ i. Some (i, a.0.1)) (inode, rest) a.2 in
-    let P : Inode × List ℕ → Type 0 = λ q. IsInode q.0 × Takes bytes (inode_bytes q.0) q.1 in
+    let a = bind_some (plain_fields_at bytes) (λ f. inode_said f.0 >>= λ i. Some (i, f.1)) (inode, rest) read in
+    let b = bind_some (inode_said a.0.0) (λ i. Some (i, a.0.1)) (inode, rest) a.2 in
+    let P : Inode × List ℕ → Type 0 = λ q. IsInode q.0 × Takes bytes (plain_bytes q.0) q.1 in
     subst P (same_Some (b.0, a.0.1) (inode, rest) b.2) (inode_joined bytes a.0.0 a.0.1 b.0 (fields_takes bytes a.0.0 a.0.1 fits a.1) (inode_of_takes a.0.0 b.0 b.1))
 
 -- ---- listings
 
-abbrev Listed : Type 0
-Listed = List ℕ × Inode
-
 listed_takes : (bytes : List ℕ) (entry : Listed) (rest : List ℕ) → IsBytes bytes → listed_at bytes ≡ Some (entry, rest) → IsListed entry × Takes bytes (listed_bytes entry) rest
 unfolding listed_at
 listed_takes bytes entry rest fits read =
-    let a = bind_some (name_at bytes) (λ n. inode_at n.1 >>= λ i. Some ((n.0, i.0), i.1)) (entry, rest) read in
-    let b = bind_some (inode_at a.0.1) (λ i. Some ((a.0.0, i.0), i.1)) (entry, rest) a.2 in
+    let a = bind_some (entry_name_at bytes) (λ n. plain_inode_at n.1 >>= λ i. Some ((n.0, i.0), i.1)) (entry, rest) read in
+    let b = bind_some (plain_inode_at a.0.1) (λ i. Some ((a.0.0, i.0), i.1)) (entry, rest) a.2 in
     let n = name_takes bytes a.0.0 a.0.1 fits a.1 in
     let i = inode_takes a.0.1 b.0.0 b.0.1 n.1.rest_fits b.1 in
-    let whole : Takes bytes (length a.0.0 ∷ (a.0.0 ++ inode_bytes b.0.0)) b.0.1 = Takes-then bytes (length a.0.0 ∷ a.0.0) a.0.1 (inode_bytes b.0.0) b.0.1 n.1 i.1 in
+    let whole = Takes-then bytes (counted_bytes 1 a.0.0) a.0.1 (plain_bytes b.0.0) b.0.1 n.1 i.1 in
     let P : Listed × List ℕ → Type 0 = λ q. IsListed q.0 × Takes bytes (listed_bytes q.0) q.1 in
     subst P (same_Some ((a.0.0, b.0.0), b.0.1) (entry, rest) b.2) ((n.0, i.0), whole)
 
@@ -202,19 +199,19 @@ Says kind bytes q = IsReply q.0 × Takes (kind ∷ bytes) (reply_bytes q.0) q.1
 behind : (kind : ℕ) (bytes text rest : List ℕ) → Takes bytes text rest → Takes (kind ∷ bytes) (kind ∷ text) rest
 behind kind bytes text rest t = record { parts = ap (λ (x : List ℕ). kind ∷ x) t.parts; rest_fits = t.rest_fits }
 
-entry_takes : (bytes : List ℕ) (reply : Reply) (rest : List ℕ) → IsBytes bytes → entry_at bytes ≡ Some (reply, rest) → Says 1 bytes (reply, rest)
-unfolding entry_at
+entry_takes : (bytes : List ℕ) (reply : Reply) (rest : List ℕ) → IsBytes bytes → found_at bytes ≡ Some (reply, rest) → Says 1 bytes (reply, rest)
+unfolding found_at
 entry_takes bytes reply rest fits read =
-    let a = bind_some (inode_at bytes) (λ i. Some (Entry i.0, i.1)) (reply, rest) read in
+    let a = bind_some (plain_inode_at bytes) (λ i. Some (Entry i.0, i.1)) (reply, rest) read in
     let t = inode_takes bytes a.0.0 a.0.1 fits a.1 in
-    subst (Says 1 bytes) (same_Some (Entry a.0.0, a.0.1) (reply, rest) a.2) (t.0, behind 1 bytes (inode_bytes a.0.0) a.0.1 t.1)
+    subst (Says 1 bytes) (same_Some (Entry a.0.0, a.0.1) (reply, rest) a.2) (t.0, behind 1 bytes (plain_bytes a.0.0) a.0.1 t.1)
 
 link_takes : (bytes : List ℕ) (reply : Reply) (rest : List ℕ) → IsBytes bytes → link_at bytes ≡ Some (reply, rest) → Says 3 bytes (reply, rest)
 unfolding link_at
 link_takes bytes reply rest fits read =
     let a = bind_some (target_at bytes) (λ t. Some (Target t.0, t.1)) (reply, rest) read in
     let t = target_takes bytes a.0.0 a.0.1 fits a.1 in
-    subst (Says 3 bytes) (same_Some (Target a.0.0, a.0.1) (reply, rest) a.2) (t.0, behind 3 bytes (target_bytes a.0.0) a.0.1 t.1)
+    subst (Says 3 bytes) (same_Some (Target a.0.0, a.0.1) (reply, rest) a.2) (t.0, behind 3 bytes (counted_bytes 2 a.0.0) a.0.1 t.1)
 
 errno_takes : (bytes : List ℕ) (reply : Reply) (rest : List ℕ) → IsBytes bytes → errno_at bytes ≡ Some (reply, rest) → Says 5 bytes (reply, rest)
 unfolding errno_at
@@ -233,16 +230,16 @@ entries_joined bytes t u rest byte count more list said few len all t0 t1 t2 =
     let bounded : length list < 2 ^ 64 = omega (arith, few, len) in
     ((bounded, all), behind 2 bytes (more_byte more ∷ (little_bytes 8 (length list) ++ flat_map listed_bytes list)) rest whole)
 
-entries_takes : (bytes : List ℕ) (reply : Reply) (rest : List ℕ) → IsBytes bytes → entries_at bytes ≡ Some (reply, rest) → Says 2 bytes (reply, rest)
-unfolding entries_at
+entries_takes : (bytes : List ℕ) (reply : Reply) (rest : List ℕ) → IsBytes bytes → listing_at bytes ≡ Some (reply, rest) → Says 2 bytes (reply, rest)
+unfolding listing_at
 entries_takes bytes reply rest fits read =
-    let a = bind_some (byte_at bytes) (λ b. more_of b.0 >>= λ more. number_at 8 b.1 >>= λ n. items_at listed_at n.0 n.1 >>= λ list. Some (Entries list.0 more, list.1)) (reply, rest) read in
-    let m = bind_some (more_of a.0.0) (λ more. number_at 8 a.0.1 >>= λ n. items_at listed_at n.0 n.1 >>= λ list. Some (Entries list.0 more, list.1)) (reply, rest) a.2 in
-    let n = bind_some (number_at 8 a.0.1) (λ n. items_at listed_at n.0 n.1 >>= λ list. Some (Entries list.0 m.0, list.1)) (reply, rest) m.2 in
-    let l = bind_some (items_at listed_at n.0.0 n.0.1) (λ list. Some (Entries list.0 m.0, list.1)) (reply, rest) n.2 in
+    let a = bind_some (byte_at bytes) (λ b. more_of b.0 >>= λ more. number_at 8 b.1 >>= λ n. list_at n.0 n.1 >>= λ list. Some (Entries list.0 more, list.1)) (reply, rest) read in
+    let m = bind_some (more_of a.0.0) (λ more. number_at 8 a.0.1 >>= λ n. list_at n.0 n.1 >>= λ list. Some (Entries list.0 more, list.1)) (reply, rest) a.2 in
+    let n = bind_some (number_at 8 a.0.1) (λ n. list_at n.0 n.1 >>= λ list. Some (Entries list.0 m.0, list.1)) (reply, rest) m.2 in
+    let l = bind_some (list_at n.0.0 n.0.1) (λ list. Some (Entries list.0 m.0, list.1)) (reply, rest) n.2 in
     let t0 = byte_takes bytes a.0.0 a.0.1 fits a.1 in
     let t1 = number_takes 8 width_8 a.0.1 n.0.0 n.0.1 t0.rest_fits n.1 in
-    let t2 = items_take listed_at listed_bytes IsListed listed_takes n.0.0 n.0.1 l.0.0 l.0.1 t1.0.rest_fits l.1 in
+    let t2 = list_takes listed_takes n.0.0 n.0.1 l.0.0 l.0.1 t1.0.rest_fits l.1 in
     subst (Says 2 bytes) (same_Some (Entries l.0.0 m.0, l.0.1) (reply, rest) l.2)
     (entries_joined bytes a.0.1 n.0.1 l.0.1 a.0.0 n.0.0 m.0 l.0.0 (more_takes a.0.0 m.0 m.1) (omega (arith, t1.1)) t2.0 t2.1 t0 t1.0 t2.2)
 
@@ -253,7 +250,7 @@ said_takes kind bytes reply rest fits read = go (eqb kind 1) (eqb kind 2) (eqb k
     P k = Says k bytes (reply, rest)
 
     go : (a b c d e : Bool) → eqb kind 1 ≡ a → eqb kind 2 ≡ b → eqb kind 3 ≡ c → eqb kind 4 ≡ d → eqb kind 5 ≡ e
-        → cond a (entry_at bytes) (cond b (entries_at bytes) (cond c (link_at bytes) (cond d (Some (Done, bytes)) (cond e (errno_at bytes) None)))) ≡ Some (reply, rest) → P kind
+        → cond a (found_at bytes) (cond b (listing_at bytes) (cond c (link_at bytes) (cond d (Some (Done, bytes)) (cond e (errno_at bytes) None)))) ≡ Some (reply, rest) → P kind
     go true b c d e ha hb hc hd he read = subst P (sym (eqb-true kind 1 ha)) (entry_takes bytes reply rest fits read)
     go false true c d e ha hb hc hd he read = subst P (sym (eqb-true kind 2 hb)) (entries_takes bytes reply rest fits read)
     go false false true d e ha hb hc hd he read = subst P (sym (eqb-true kind 3 hc)) (link_takes bytes reply rest fits read)

@@ -12,20 +12,17 @@ use Rattle.dirfrag_codec.specs.Values.{has_target, is_name}
 use Rattle.reply_codec.specs.ReplyBytes.{inode_widths}
 
 -- so many bytes
-abbrev pub part_at : ℕ → List ℕ → Option (List ℕ × List ℕ)
-part_at n bytes = if nat_lt (length bytes) n then None else Some (take n bytes, drop n bytes)
+abbrev pub bytes_at : ℕ → List ℕ → Option (List ℕ × List ℕ)
+bytes_at n bytes = if nat_lt (length bytes) n then None else Some (take n bytes, drop n bytes)
 
--- bytes behind their number in one byte, and in two
-abbrev pub short_part_at : List ℕ → Option (List ℕ × List ℕ)
-short_part_at bytes = byte_at bytes >>= λ len. part_at len.0 len.1
+-- bytes behind their number, which has so many bytes
+abbrev pub counted_at : ℕ → List ℕ → Option (List ℕ × List ℕ)
+counted_at width bytes = number_at width bytes >>= λ len. bytes_at len.0 len.1
 
-abbrev pub long_part_at : List ℕ → Option (List ℕ × List ℕ)
-long_part_at bytes = number_at 2 bytes >>= λ len. part_at len.0 len.1
-
--- a name
-unfoldable pub name_at : List ℕ → Option (List ℕ × List ℕ)
-name_at bytes = do
-  name ← short_part_at bytes
+-- the name of an entry
+unfoldable pub entry_name_at : List ℕ → Option (List ℕ × List ℕ)
+entry_name_at bytes = do
+  name ← counted_at 1 bytes
   if is_name name.0 then Some name else None
 
 -- whether these bytes are the target of a link
@@ -34,18 +31,18 @@ is_target bytes = has_target (Symlink bytes)
 
 unfoldable pub target_at : List ℕ → Option (List ℕ × List ℕ)
 target_at bytes = do
-  target ← long_part_at bytes
+  target ← counted_at 2 bytes
   if is_target target.0 then Some target else None
 
 -- the kind of a byte, with the target of a link; nothing stands there for the other kinds
-abbrev pub kind_of : ℕ → List ℕ → Option Kind
-kind_of byte target =
+abbrev pub kind_from : ℕ → List ℕ → Option Kind
+kind_from byte target =
     if byte == 3 then (if is_target target then Some (Symlink target) else None)
     else if length target == 0 then (if byte == 1 then Some File else if byte == 2 then Some Dir else None) else None
 
 -- the pin of a number
-abbrev pub pin_of : ℕ → Option (Option Rank)
-pin_of number =
+abbrev pub pin_from : ℕ → Option (Option Rank)
+pin_from number =
     if number == 0 then Some None else if nat_le number 256 then Some (Some (record { 0 = number - 1 })) else None
 
 -- the fields of an inode, whatever they mean
@@ -60,8 +57,8 @@ pub record InodeFields : Type 0 where
   pub pin : ℕ
   pub target : List ℕ
 
-abbrev pub fields_of : List ℕ → List ℕ → InodeFields
-fields_of n target =
+abbrev pub plain_fields : List ℕ → List ℕ → InodeFields
+plain_fields n target =
     record {
       kind = get_or n 0 0;
       ino = get_or n 1 0;
@@ -74,18 +71,18 @@ fields_of n target =
       target = target;
     }
 
-unfoldable pub fields_at : List ℕ → Option (InodeFields × List ℕ)
-fields_at bytes = do
+unfoldable pub plain_fields_at : List ℕ → Option (InodeFields × List ℕ)
+plain_fields_at bytes = do
   numbers ← numbers_at inode_widths bytes
-  target ← part_at (get_or numbers.0 8 0) numbers.1
-  Some (fields_of numbers.0 target.0, target.1)
+  target ← bytes_at (get_or numbers.0 8 0) numbers.1
+  Some (plain_fields numbers.0 target.0, target.1)
 
 -- the mode of a number
-abbrev pub mode_of : ℕ → Option ℕ
-mode_of bits = if nat_le bits 4095 then Some bits else None
+abbrev pub mode_from : ℕ → Option ℕ
+mode_from bits = if nat_le bits 4095 then Some bits else None
 
-abbrev pub inode_with : InodeFields → ℕ → Option Rank → Kind → Inode
-inode_with f mode pin kind =
+abbrev pub inode_from : InodeFields → ℕ → Option Rank → Kind → Inode
+inode_from f mode pin kind =
     record {
       ino = record { 0 = f.ino };
       kind = kind;
@@ -98,49 +95,49 @@ inode_with f mode pin kind =
     }
 
 -- the inode of these fields
-unfoldable pub inode_of : InodeFields → Option Inode
-inode_of f = do
-  mode ← mode_of f.mode
-  pin ← pin_of f.pin
-  kind ← kind_of f.kind f.target
-  Some (inode_with f mode pin kind)
+unfoldable pub inode_said : InodeFields → Option Inode
+inode_said f = do
+  mode ← mode_from f.mode
+  pin ← pin_from f.pin
+  kind ← kind_from f.kind f.target
+  Some (inode_from f mode pin kind)
 
 -- an inode
-unfoldable pub inode_at : List ℕ → Option (Inode × List ℕ)
-inode_at bytes = do
-  fields ← fields_at bytes
-  inode ← inode_of fields.0
+unfoldable pub plain_inode_at : List ℕ → Option (Inode × List ℕ)
+plain_inode_at bytes = do
+  fields ← plain_fields_at bytes
+  inode ← inode_said fields.0
   Some (inode, fields.1)
 
 -- a name with its inode
 unfoldable pub listed_at : List ℕ → Option ((List ℕ × Inode) × List ℕ)
 listed_at bytes = do
-  name ← name_at bytes
-  inode ← inode_at name.1
+  name ← entry_name_at bytes
+  inode ← plain_inode_at name.1
   Some ((name.0, inode.0), inode.1)
 
--- so many items, one after another
-abbrev pub items_at : {A : Type 0} → (List ℕ → Option (A × List ℕ)) → ℕ → List ℕ → Option (List A × List ℕ)
-items_at item_at zero bytes = Some ([], bytes)
-items_at item_at (suc n) bytes =
-    item_at bytes >>= λ first. items_at item_at n first.1 >>= λ more. Some (first.0 ∷ more.0, more.1)
+-- so many names with their inodes
+abbrev pub list_at : ℕ → List ℕ → Option (List (List ℕ × Inode) × List ℕ)
+list_at zero bytes = Some ([], bytes)
+list_at (suc n) bytes =
+    listed_at bytes >>= λ first. list_at n first.1 >>= λ more. Some (first.0 ∷ more.0, more.1)
 
 -- whether further names follow, as a byte says it
 abbrev pub more_of : ℕ → Option Bool
 more_of byte = if byte == 0 then Some false else if byte == 1 then Some true else None
 
 -- what follows the byte of each kind
-unfoldable pub entry_at : List ℕ → Option (Reply × List ℕ)
-entry_at bytes = do
-  inode ← inode_at bytes
+unfoldable pub found_at : List ℕ → Option (Reply × List ℕ)
+found_at bytes = do
+  inode ← plain_inode_at bytes
   Some (Entry inode.0, inode.1)
 
-unfoldable pub entries_at : List ℕ → Option (Reply × List ℕ)
-entries_at bytes = do
+unfoldable pub listing_at : List ℕ → Option (Reply × List ℕ)
+listing_at bytes = do
   byte ← byte_at bytes
   more ← more_of byte.0
   count ← number_at 8 byte.1
-  list ← items_at listed_at count.0 count.1
+  list ← list_at count.0 count.1
   Some (Entries list.0 more, list.1)
 
 unfoldable pub link_at : List ℕ → Option (Reply × List ℕ)
@@ -155,7 +152,7 @@ errno_at bytes = do
 
 abbrev pub said_at : ℕ → List ℕ → Option (Reply × List ℕ)
 said_at kind bytes =
-    if kind == 1 then entry_at bytes else if kind == 2 then entries_at bytes else if kind == 3 then link_at bytes
+    if kind == 1 then found_at bytes else if kind == 2 then listing_at bytes else if kind == 3 then link_at bytes
     else if kind == 4 then Some (Done, bytes) else if kind == 5 then errno_at bytes else None
 
 -- a reply

@@ -28,14 +28,14 @@ pub record IsInode (inode : Inode) : Type 0 where
 abbrev pub IsListed : List ℕ × Inode → Type 0
 IsListed entry = IsName entry.0 × IsInode entry.1
 
--- a listing, which has fewer than 2 ^ 64 names
-abbrev pub IsListing : List (List ℕ × Inode) → Type 0
-IsListing list = (length list < 2 ^ 64) × AllByRecursion IsListed list
+-- the names of a listing with their inodes, fewer than 2 ^ 64
+abbrev pub AreListed : List (List ℕ × Inode) → Type 0
+AreListed list = (length list < 2 ^ 64) × AllByRecursion IsListed list
 
 -- a reply
 abbrev pub IsReply : Reply → Type 0
 IsReply (Entry inode) = IsInode inode
-IsReply (Entries list more) = IsListing list
+IsReply (Entries list more) = AreListed list
 IsReply (Target target) = IsTarget target
 IsReply Done = Unit {0}
 IsReply (Errno number) = number < 2 ^ 16
@@ -58,21 +58,21 @@ abbrev pub inode_widths : List ℕ
 inode_widths = 1 ∷ 8 ∷ 8 ∷ 8 ∷ 4 ∷ 4 ∷ 2 ∷ 2 ∷ 2 ∷ []
 
 -- an inode: its numbers, and the target of a link
-unfoldable pub inode_bytes : Inode → List ℕ
-inode_bytes inode = fields_bytes inode_widths (inode_numbers inode) ++ target_of inode.kind
+unfoldable pub plain_bytes : Inode → List ℕ
+plain_bytes inode = fields_bytes inode_widths (inode_numbers inode) ++ target_of inode.kind
+
+-- bytes behind their number, which has so many bytes
+abbrev pub counted_bytes : ℕ → List ℕ → List ℕ
+counted_bytes width bytes = little_bytes width (length bytes) ++ bytes
 
 -- a name behind its length, and its inode
 abbrev pub listed_bytes : List ℕ × Inode → List ℕ
-listed_bytes entry = length entry.0 ∷ (entry.0 ++ inode_bytes entry.1)
+listed_bytes entry = counted_bytes 1 entry.0 ++ plain_bytes entry.1
 
 -- whether further names follow
 abbrev pub more_byte : Bool → ℕ
 more_byte false = 0
 more_byte true = 1
-
--- a target behind its length
-abbrev pub target_bytes : List ℕ → List ℕ
-target_bytes target = little_bytes 2 (length target) ++ target
 
 -- a listing: whether further names follow, how many there are, and each of them
 abbrev pub listing_bytes : List (List ℕ × Inode) → Bool → List ℕ
@@ -80,9 +80,9 @@ listing_bytes list more = more_byte more ∷ (little_bytes 8 (length list) ++ fl
 
 -- a reply: its kind, and what it says
 abbrev pub reply_bytes : Reply → List ℕ
-reply_bytes (Entry inode) = 1 ∷ inode_bytes inode
+reply_bytes (Entry inode) = 1 ∷ plain_bytes inode
 reply_bytes (Entries list more) = 2 ∷ listing_bytes list more
-reply_bytes (Target target) = 3 ∷ target_bytes target
+reply_bytes (Target target) = 3 ∷ counted_bytes 2 target
 reply_bytes Done = 4 ∷ []
 reply_bytes (Errno number) = 5 ∷ little_bytes 2 number
 

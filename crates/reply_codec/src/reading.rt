@@ -2,7 +2,7 @@
 ghost use Rattle.std.specs.Prelude.{◌≡◌, IfOk};
 ghost use Rattle.dirfrag_codec.specs.Grammar.{Decodes};
 ghost use Rattle.dirfrag_codec.specs.Reading.{Gives};
-ghost use Rattle.reply_codec.specs.Reading.{InodeFields, entries_at, entry_at, errno_at, fields_at, inode_at, inode_of, items_at, kind_of, link_at, listed_at, long_part_at, more_of, name_at, part_at, pin_of, reply_at, said_at, short_part_at, target_at};
+ghost use Rattle.reply_codec.specs.Reading.{InodeFields, bytes_at, counted_at, entry_name_at, errno_at, found_at, inode_said, kind_from, link_at, list_at, listed_at, listing_at, more_of, pin_from, plain_fields_at, plain_inode_at, reply_at, said_at, target_at};
 ghost use Rattle.reply_codec.specs.ReplyBytes.{SpellsReply};
 
 use crate::writing::{DIR, DONE, ENTRIES, ENTRY, ERRNO, FILE, SYMLINK, TARGET};
@@ -42,8 +42,8 @@ fn said_at(alloc: Global, kind: u8, bytes: &[u8]) -> Result<Option<(Reply, &[u8]
     ensures { IfOk result (λ answer. Gives (λ x. (x.0, x.1.now)) answer (said_at kind bytes.now)) }
 {
     match kind {
-        ENTRY => entry_at(alloc, bytes),
-        ENTRIES => entries_at(alloc, bytes),
+        ENTRY => found_at(alloc, bytes),
+        ENTRIES => listing_at(alloc, bytes),
         TARGET => link_at(alloc, bytes),
         DONE => Ok(Some((Reply::Done, bytes))),
         ERRNO => Ok(errno_at(bytes)),
@@ -52,20 +52,20 @@ fn said_at(alloc: Global, kind: u8, bytes: &[u8]) -> Result<Option<(Reply, &[u8]
 }
 
 // The reply that is an inode, and the bytes after it.
-#[tactic(auto, unfolding(crate::specs::Reading::entry_at))]
-fn entry_at(alloc: Global, bytes: &[u8]) -> Result<Option<(Reply, &[u8])>, AllocError>
-    ensures { IfOk result (λ answer. Gives (λ x. (x.0, x.1.now)) answer (entry_at bytes.now)) }
+#[tactic(auto, unfolding(crate::specs::Reading::found_at))]
+fn found_at(alloc: Global, bytes: &[u8]) -> Result<Option<(Reply, &[u8])>, AllocError>
+    ensures { IfOk result (λ answer. Gives (λ x. (x.0, x.1.now)) answer (found_at bytes.now)) }
 {
-    let Some((inode, rest)) = inode_at(alloc, bytes)? else {
+    let Some((inode, rest)) = plain_inode_at(alloc, bytes)? else {
         return Ok(None);
     };
     Ok(Some((Reply::Entry(inode), rest)))
 }
 
 // The reply that is a listing, and the bytes after it.
-#[tactic(auto, unfolding(crate::specs::Reading::entries_at))]
-fn entries_at(alloc: Global, bytes: &[u8]) -> Result<Option<(Reply, &[u8])>, AllocError>
-    ensures { IfOk result (λ answer. Gives (λ x. (x.0, x.1.now)) answer (entries_at bytes.now)) }
+#[tactic(auto, unfolding(crate::specs::Reading::listing_at))]
+fn listing_at(alloc: Global, bytes: &[u8]) -> Result<Option<(Reply, &[u8])>, AllocError>
+    ensures { IfOk result (λ answer. Gives (λ x. (x.0, x.1.now)) answer (listing_at bytes.now)) }
 {
     let Some((byte, rest)) = u8_at(bytes) else {
         return Ok(None);
@@ -115,7 +115,7 @@ fn more_of(byte: u8) -> Option<bool>
 
 // So many names with their inodes, and the bytes after them.
 fn list_at(alloc: Global, bytes: &[u8], count: u64) -> Result<Option<(Listing, &[u8])>, AllocError>
-    ensures { IfOk result (λ answer. Gives (λ x. (x.0, x.1.now)) answer (items_at listed_at count bytes.now)) }
+    ensures { IfOk result (λ answer. Gives (λ x. (x.0, x.1.now)) answer (list_at count bytes.now)) }
 {
     let mut list = Vec::new(alloc);
     let mut rest = bytes;
@@ -134,21 +134,21 @@ fn list_at(alloc: Global, bytes: &[u8], count: u64) -> Result<Option<(Listing, &
 fn listed_at(alloc: Global, bytes: &[u8]) -> Result<Option<((Name, Inode), &[u8])>, AllocError>
     ensures { IfOk result (λ answer. Gives (λ x. (x.0, x.1.now)) answer (listed_at bytes.now)) }
 {
-    let Some((name, rest)) = name_at(alloc, bytes)? else {
+    let Some((name, rest)) = entry_name_at(alloc, bytes)? else {
         return Ok(None);
     };
-    let Some((inode, rest)) = inode_at(alloc, rest)? else {
+    let Some((inode, rest)) = plain_inode_at(alloc, rest)? else {
         return Ok(None);
     };
     Ok(Some(((name, inode), rest)))
 }
 
 // A name behind its length, and the bytes after it.
-#[tactic(auto, unfolding(crate::specs::Reading::name_at))]
-fn name_at(alloc: Global, bytes: &[u8]) -> Result<Option<(Name, &[u8])>, AllocError>
-    ensures { IfOk result (λ answer. Gives (λ x. (x.0, x.1.now)) answer (name_at bytes.now)) }
+#[tactic(auto, unfolding(crate::specs::Reading::entry_name_at))]
+fn entry_name_at(alloc: Global, bytes: &[u8]) -> Result<Option<(Name, &[u8])>, AllocError>
+    ensures { IfOk result (λ answer. Gives (λ x. (x.0, x.1.now)) answer (entry_name_at bytes.now)) }
 {
-    let Some((text, rest)) = short_part_at(bytes) else {
+    let Some((text, rest)) = name_part(bytes) else {
         return Ok(None);
     };
     match Name::from_bytes(alloc, text) {
@@ -163,7 +163,7 @@ fn name_at(alloc: Global, bytes: &[u8]) -> Result<Option<(Name, &[u8])>, AllocEr
 fn target_at(alloc: Global, bytes: &[u8]) -> Result<Option<(Target, &[u8])>, AllocError>
     ensures { IfOk result (λ answer. Gives (λ x. (x.0, x.1.now)) answer (target_at bytes.now)) }
 {
-    let Some((text, rest)) = long_part_at(bytes) else {
+    let Some((text, rest)) = target_part(bytes) else {
         return Ok(None);
     };
     match Target::from_bytes(alloc, text) {
@@ -174,24 +174,24 @@ fn target_at(alloc: Global, bytes: &[u8]) -> Result<Option<(Target, &[u8])>, All
 }
 
 // Bytes behind their number in one byte, and the bytes after them.
-fn short_part_at(bytes: &[u8]) -> Option<(&[u8], &[u8])>
-    ensures { Gives (λ x. (x.0.now, x.1.now)) result (short_part_at bytes.now) }
+fn name_part(bytes: &[u8]) -> Option<(&[u8], &[u8])>
+    ensures { Gives (λ x. (x.0.now, x.1.now)) result (counted_at 1 bytes.now) }
 {
     let (len, rest) = u8_at(bytes)?;
-    part_at(rest, usize::from(len))
+    bytes_at(rest, usize::from(len))
 }
 
 // Bytes behind their number in two bytes, and the bytes after them.
-fn long_part_at(bytes: &[u8]) -> Option<(&[u8], &[u8])>
-    ensures { Gives (λ x. (x.0.now, x.1.now)) result (long_part_at bytes.now) }
+fn target_part(bytes: &[u8]) -> Option<(&[u8], &[u8])>
+    ensures { Gives (λ x. (x.0.now, x.1.now)) result (counted_at 2 bytes.now) }
 {
     let (len, rest) = u16_at(bytes)?;
-    part_at(rest, usize::from(len))
+    bytes_at(rest, usize::from(len))
 }
 
 // So many bytes, and the bytes after them.
-fn part_at(bytes: &[u8], len: usize) -> Option<(&[u8], &[u8])>
-    ensures { Gives (λ x. (x.0.now, x.1.now)) result (part_at len bytes.now) }
+fn bytes_at(bytes: &[u8], len: usize) -> Option<(&[u8], &[u8])>
+    ensures { Gives (λ x. (x.0.now, x.1.now)) result (bytes_at len bytes.now) }
 {
     if bytes.len() < len {
         return None;
@@ -200,14 +200,14 @@ fn part_at(bytes: &[u8], len: usize) -> Option<(&[u8], &[u8])>
 }
 
 // An inode, and the bytes after it.
-#[tactic(auto, unfolding(crate::specs::Reading::inode_at))]
-fn inode_at(alloc: Global, bytes: &[u8]) -> Result<Option<(Inode, &[u8])>, AllocError>
-    ensures { IfOk result (λ answer. Gives (λ x. (x.0, x.1.now)) answer (inode_at bytes.now)) }
+#[tactic(auto, unfolding(crate::specs::Reading::plain_inode_at))]
+fn plain_inode_at(alloc: Global, bytes: &[u8]) -> Result<Option<(Inode, &[u8])>, AllocError>
+    ensures { IfOk result (λ answer. Gives (λ x. (x.0, x.1.now)) answer (plain_inode_at bytes.now)) }
 {
-    let Some((fields, rest)) = fields_at(bytes) else {
+    let Some((fields, rest)) = plain_fields_at(bytes) else {
         return Ok(None);
     };
-    let Some(inode) = inode_of(alloc, fields)? else {
+    let Some(inode) = inode_said(alloc, fields)? else {
         return Ok(None);
     };
     Ok(Some((inode, rest)))
@@ -228,8 +228,8 @@ struct Fields<'a> {
 }
 
 // The fields of an inode, and the bytes after them.
-#[tactic(auto, unfolding(crate::specs::Reading::fields_at))]
-fn fields_at(bytes: &[u8]) -> Option<(Fields<'_>, &[u8])>
+#[tactic(auto, unfolding(crate::specs::Reading::plain_fields_at))]
+fn plain_fields_at(bytes: &[u8]) -> Option<(Fields<'_>, &[u8])>
     ensures { Gives (λ x. (
       record {
         kind = x.0.kind;
@@ -243,7 +243,7 @@ fn fields_at(bytes: &[u8]) -> Option<(Fields<'_>, &[u8])>
         target = x.0.target.now;
       },
       x.1.now,
-    )) result (fields_at bytes.now) }
+    )) result (plain_fields_at bytes.now) }
 {
     let (kind, rest) = u8_at(bytes)?;
     let (ino, rest) = u64_at(rest)?;
@@ -253,7 +253,7 @@ fn fields_at(bytes: &[u8]) -> Option<(Fields<'_>, &[u8])>
     let (gid, rest) = u32_at(rest)?;
     let (mode, rest) = u16_at(rest)?;
     let (pin, rest) = u16_at(rest)?;
-    let (target, rest) = long_part_at(rest)?;
+    let (target, rest) = target_part(rest)?;
     let fields = Fields {
         kind,
         ino,
@@ -269,9 +269,9 @@ fn fields_at(bytes: &[u8]) -> Option<(Fields<'_>, &[u8])>
 }
 
 // The inode of these fields, if there is one.
-#[tactic(auto, unfolding(crate::specs::Reading::inode_of))]
-fn inode_of(alloc: Global, fields: Fields<'_>) -> Result<Option<Inode>, AllocError>
-    ensures { IfOk result (λ answer. answer ≡ inode_of (record {
+#[tactic(auto, unfolding(crate::specs::Reading::inode_said))]
+fn inode_said(alloc: Global, fields: Fields<'_>) -> Result<Option<Inode>, AllocError>
+    ensures { IfOk result (λ answer. answer ≡ inode_said (record {
       kind = fields.entry.kind;
       ino = fields.entry.ino;
       size = fields.entry.size;
@@ -286,10 +286,10 @@ fn inode_of(alloc: Global, fields: Fields<'_>) -> Result<Option<Inode>, AllocErr
     let Some(mode) = Mode::new(fields.mode) else {
         return Ok(None);
     };
-    let Some(pin) = pin_of(fields.pin) else {
+    let Some(pin) = pin_from(fields.pin) else {
         return Ok(None);
     };
-    let Some(kind) = kind_of(alloc, fields.kind, fields.target)? else {
+    let Some(kind) = kind_from(alloc, fields.kind, fields.target)? else {
         return Ok(None);
     };
     Ok(Some(Inode {
@@ -305,8 +305,8 @@ fn inode_of(alloc: Global, fields: Fields<'_>) -> Result<Option<Inode>, AllocErr
 }
 
 // The kind of a byte, with the target of a link; the other kinds have none.
-fn kind_of(alloc: Global, byte: u8, target: &[u8]) -> Result<Option<Kind>, AllocError>
-    ensures { IfOk result (λ answer. answer ≡ kind_of byte target.now) }
+fn kind_from(alloc: Global, byte: u8, target: &[u8]) -> Result<Option<Kind>, AllocError>
+    ensures { IfOk result (λ answer. answer ≡ kind_from byte target.now) }
 {
     if byte == SYMLINK {
         return match Target::from_bytes(alloc, target) {
@@ -326,8 +326,8 @@ fn kind_of(alloc: Global, byte: u8, target: &[u8]) -> Result<Option<Kind>, Alloc
 }
 
 // The pin of a number.
-fn pin_of(number: u16) -> Option<Option<Rank>>
-    ensures { result ≡ pin_of number }
+fn pin_from(number: u16) -> Option<Option<Rank>>
+    ensures { result ≡ pin_from number }
 {
     if number == 0 {
         return Some(None);

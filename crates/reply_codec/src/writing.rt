@@ -4,7 +4,7 @@ ghost use Rattle.std.specs.List.{flat_map, AllByRecursion};
 ghost use Rattle.byteorder.specs.Endian.{little_bytes};
 ghost use Rattle.mds_types.specs.Name.{IsTarget};
 ghost use Rattle.dirfrag_codec.specs.EntryRecord.{HasTarget, kind_byte, target_of};
-ghost use Rattle.reply_codec.specs.ReplyBytes.{HasRank, IsInode, IsListed, IsListing, IsReply, SpellsReply, inode_bytes, listed_bytes, listing_bytes, pin_number, reply_bytes, target_bytes};
+ghost use Rattle.reply_codec.specs.ReplyBytes.{HasRank, IsInode, IsListed, AreListed, IsReply, SpellsReply, plain_bytes, listed_bytes, listing_bytes, pin_number, reply_bytes, counted_bytes};
 
 use dirfrag_codec::fields::{put_u16, put_u32, put_u64};
 use dirfrag_codec::has_widths;
@@ -53,7 +53,7 @@ fn put_reply(out: &mut Vec<u8>, reply: &Reply) -> Result<(), AllocError>
 
 // Appends the reply that is an inode.
 fn put_entry(out: &mut Vec<u8>, inode: &Inode) -> Result<(), AllocError>
-    ensures { OnOk result (IsInode inode.now × (out.new.items ≡ out.old.items ++ 1 ∷ inode_bytes inode.now)) }
+    ensures { OnOk result (IsInode inode.now × (out.new.items ≡ out.old.items ++ 1 ∷ plain_bytes inode.now)) }
 {
     out.push(ENTRY)?;
     put_inode(out, inode)
@@ -61,7 +61,7 @@ fn put_entry(out: &mut Vec<u8>, inode: &Inode) -> Result<(), AllocError>
 
 // Appends the reply that is a listing.
 fn put_entries(out: &mut Vec<u8>, list: &[(Name, Inode)], more: bool) -> Result<(), AllocError>
-    ensures { OnOk result (IsListing list.now × (out.new.items ≡ out.old.items ++ 2 ∷ listing_bytes list.now more)) }
+    ensures { OnOk result (AreListed list.now × (out.new.items ≡ out.old.items ++ 2 ∷ listing_bytes list.now more)) }
 {
     out.extend_from_slice(&[ENTRIES, u8::from(more)])?;
     put_u64(out, list.len() as u64)?;
@@ -90,7 +90,7 @@ fn put_listed(out: &mut Vec<u8>, entry: &(Name, Inode)) -> Result<(), AllocError
 
 // Appends the reply that is a target.
 fn put_target(out: &mut Vec<u8>, target: &Target) -> Result<(), AllocError>
-    ensures { OnOk result (IsTarget target.now × (out.new.items ≡ out.old.items ++ 3 ∷ target_bytes target.now)) }
+    ensures { OnOk result (IsTarget target.now × (out.new.items ≡ out.old.items ++ 3 ∷ counted_bytes 2 target.now)) }
 {
     let target = target.as_bytes();
     out.push(TARGET)?;
@@ -108,7 +108,7 @@ fn put_errno(out: &mut Vec<u8>, number: u16) -> Result<(), AllocError>
 
 // Appends an inode.
 fn put_inode(out: &mut Vec<u8>, inode: &Inode) -> Result<(), AllocError>
-    ensures { OnOk result (IsInode inode.now × (out.new.items ≡ out.old.items ++ inode_bytes inode.now)) }
+    ensures { OnOk result (IsInode inode.now × (out.new.items ≡ out.old.items ++ plain_bytes inode.now)) }
 {
     is_inode(inode);
     let target = target_of(&inode.kind);

@@ -10,5 +10,5 @@ names-preserved c =
     let few : length (c.names.list.items ++ c.in-Some.entry ∷ []) ≤ c.args.count = omega (arith, length-append c.names.list.items (c.in-Some.entry ∷ [])) in
     rw c.in_ok-push.ensures.items (record {
       few = few;
-      parts = one_more listed_at c.args.count _ c.names.list.items c.names.rest.now c.in-Some.after.now c.in-Some.entry less read c.names.invariant.parts;
+      parts = one_more c.args.count _ c.names.list.items c.names.rest.now c.in-Some.after.now c.in-Some.entry less read c.names.invariant.parts;
     })

@@ -1,12 +1,12 @@
 -- What is left to read goes on with the names so far as the whole does.
-use Rattle.reply_codec.proofs.Common.{items_at, length, listed_at, ◌-◌, ◌≡◌, ◌≤◌}
+use Rattle.reply_codec.proofs.Common.{list_at, length, ◌-◌, ◌≡◌, ◌≤◌}
 use Rattle.reply_codec.proofs.Items.{preceded}
 use Rattle.reply_codec.proofs.reading.list_at.Given as goal
 
 abbrev pub invariant-names : goal.invariant-names
 invariant-names l = record {
   few : length l.list.items ≤ l.count;
-  parts : items_at listed_at l.count l.bytes ≡ preceded l.list.items (items_at listed_at (l.count - length l.list.items) l.rest);
+  parts : list_at l.count l.bytes ≡ preceded l.list.items (list_at (l.count - length l.list.items) l.rest);
 }
 
 abbrev pub decreases-names : goal.decreases-names
