@@ -4,7 +4,7 @@ use Rattle.reply_codec.specs.ReplyBytes.{plain_bytes}
 use Rattle.reply_codec.specs.Reading.{listing_at, found_at, errno_at, plain_fields_at, plain_inode_at, inode_said, link_at, listed_at, entry_name_at, reply_at, target_at}
 use Rattle.reply_codec.proofs.Items.{Listed, list_again}
 
-le_decides : (a b : ℕ) → Decides (leb a b) (a ≤ b)
+pub le_decides : (a b : ℕ) → Decides (leb a b) (a ≤ b)
 le_decides a b = (λ e. grind (arith, nat_tests), λ h. grind (arith, nat_tests))
 
 pub target_decides : (target : List ℕ) → Decides (is_target target) (IsTarget target)

@@ -4,3 +4,4 @@ pub mod Items
 pub mod ReplyLaws
 pub mod Taken
 pub mod Written
+pub mod ValueLaws

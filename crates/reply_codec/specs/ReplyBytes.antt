@@ -1,5 +1,5 @@
 -- The bytes of a reply (this project's own profile).
-use Rattle.std.specs.Prelude.{◌≡◌, ℕ, ◌+◌, ◌^◌, ◌<◌, ◌≤◌, Bool, true, false, List, [], ◌∷◌, ◌++◌, length, Option, Some, None}
+use Rattle.std.specs.Prelude.{◌≡◌, ◌⊎◌, ℕ, ◌+◌, ◌^◌, ◌<◌, ◌≤◌, Bool, true, false, List, [], ◌∷◌, ◌++◌, length, get_or, Option, Some, None}
 use Rattle.std.specs.List.{flat_map, AllByRecursion}
 use Rattle.byteorder.specs.Endian.{little_bytes}
 use Rattle.mds_types.specs.Name.{IsName, IsTarget}
@@ -90,3 +90,12 @@ reply_bytes (Errno number) = 5 ∷ little_bytes 2 number
 pub record SpellsReply (bytes : List ℕ) (reply : Reply) : Type 0 where
   pub typed : IsReply reply
   pub spelled : bytes ≡ reply_bytes reply
+
+-- bytes that begin as an inode whose kind is that of a link
+abbrev pub BeginsLink : List ℕ → Type 0
+BeginsLink bytes = get_or bytes 0 0 ≡ 3
+
+-- bytes that begin as a listing, as a target or as a link's inode: what is read of others takes no memory
+abbrev pub MayTakeMemory : List ℕ → Type 0
+MayTakeMemory bytes =
+    (get_or bytes 0 0 ≡ 2) ⊎ ((get_or bytes 0 0 ≡ 3) ⊎ ((get_or bytes 0 0 ≡ 1) × (get_or bytes 1 0 ≡ 3)))

@@ -1,10 +1,13 @@
 //! The law of the format. A law is its contract: its body does nothing.
-ghost use Rattle.dirfrag_codec.specs.Grammar.{HasOneMeaning, HasOneSpelling, NothingFollows};
+ghost use Rattle.dirfrag_codec.specs.Grammar.{HasOneMeaning, HasOneSpelling, NothingFollows, Reads};
 ghost use Rattle.reply_codec.specs.ReplyBytes.{SpellsReply};
+ghost use Rattle.reply_codec.specs.Values.{reply_from};
 
-/// Bytes are one reply alone, a reply has one spelling, and no reply begins another.
+/// Bytes are one reply alone, a reply has one spelling, and no reply begins another. `reply_from` is the reply that
+/// bytes are.
 pub fn replies_are_spelled_once()
     ensures meaning { HasOneMeaning SpellsReply }
     ensures spelling { HasOneSpelling SpellsReply }
     ensures ended { NothingFollows SpellsReply }
+    ensures value { Reads SpellsReply reply_from }
 {}

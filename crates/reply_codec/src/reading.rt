@@ -1,9 +1,10 @@
 //! The reply whose bytes these are.
-ghost use Rattle.std.specs.Prelude.{◌≡◌, IfOk};
+ghost use Rattle.std.specs.Prelude.{◌≡◌, ◌∷◌, IfOk, IfSome, OnErr, get_or};
 ghost use Rattle.dirfrag_codec.specs.Grammar.{Decodes};
 ghost use Rattle.dirfrag_codec.specs.Reading.{Gives};
 ghost use Rattle.reply_codec.specs.Reading.{InodeFields, bytes_at, counted_at, entry_name_at, errno_at, found_at, inode_said, kind_from, link_at, list_at, listed_at, listing_at, more_of, pin_from, plain_fields_at, plain_inode_at, reply_at, said_at, target_at};
-ghost use Rattle.reply_codec.specs.ReplyBytes.{SpellsReply};
+ghost use Rattle.reply_codec.specs.ReplyBytes.{BeginsLink, SpellsReply, MayTakeMemory};
+ghost use Rattle.reply_codec.specs.Values.{reply_from};
 
 use crate::writing::{DIR, DONE, ENTRIES, ENTRY, ERRNO, FILE, SYMLINK, TARGET};
 use dirfrag_codec::fields::{u8_at, u16_at, u32_at, u64_at};
@@ -12,9 +13,12 @@ use mds_types::{
 };
 use std::alloc::{AllocError, Global};
 
-/// The reply whose bytes these are; none, where they are no reply's. Takes memory for a listing and for targets.
+/// The reply whose bytes these are; none, where they are no reply's. Takes memory for a listing and for targets, so there
+/// is an error for bytes that begin as these alone.
 pub fn decode_reply(alloc: Global, bytes: &[u8]) -> Result<Option<Reply>, AllocError>
-    ensures { IfOk result (Decodes SpellsReply bytes.now) }
+    ensures spelled { IfOk result (Decodes SpellsReply bytes.now) }
+    ensures value { IfOk result (λ answer. answer ≡ reply_from bytes.now) }
+    ensures memory { OnErr result (MayTakeMemory bytes.now) }
 {
     let Some((reply, rest)) = reply_at(alloc, bytes)? else {
         return Ok(None);
@@ -29,7 +33,8 @@ pub fn decode_reply(alloc: Global, bytes: &[u8]) -> Result<Option<Reply>, AllocE
 // A reply, and the bytes after it.
 #[tactic(auto, unfolding(crate::specs::Reading::reply_at))]
 fn reply_at(alloc: Global, bytes: &[u8]) -> Result<Option<(Reply, &[u8])>, AllocError>
-    ensures { IfOk result (λ answer. Gives (λ x. (x.0, x.1.now)) answer (reply_at bytes.now)) }
+    ensures ok { IfOk result (λ answer. Gives (λ x. (x.0, x.1.now)) answer (reply_at bytes.now)) }
+    ensures memory { OnErr result (MayTakeMemory bytes.now) }
 {
     let Some((kind, rest)) = u8_at(bytes) else {
         return Ok(None);
@@ -39,7 +44,8 @@ fn reply_at(alloc: Global, bytes: &[u8]) -> Result<Option<(Reply, &[u8])>, Alloc
 
 // What stands behind the byte of a kind of replies, and the bytes after it.
 fn said_at(alloc: Global, kind: u8, bytes: &[u8]) -> Result<Option<(Reply, &[u8])>, AllocError>
-    ensures { IfOk result (λ answer. Gives (λ x. (x.0, x.1.now)) answer (said_at kind bytes.now)) }
+    ensures ok { IfOk result (λ answer. Gives (λ x. (x.0, x.1.now)) answer (said_at kind bytes.now)) }
+    ensures memory { OnErr result (MayTakeMemory (kind ∷ bytes.now)) }
 {
     match kind {
         ENTRY => found_at(alloc, bytes),
@@ -54,7 +60,8 @@ fn said_at(alloc: Global, kind: u8, bytes: &[u8]) -> Result<Option<(Reply, &[u8]
 // The reply that is an inode, and the bytes after it.
 #[tactic(auto, unfolding(crate::specs::Reading::found_at))]
 fn found_at(alloc: Global, bytes: &[u8]) -> Result<Option<(Reply, &[u8])>, AllocError>
-    ensures { IfOk result (λ answer. Gives (λ x. (x.0, x.1.now)) answer (found_at bytes.now)) }
+    ensures ok { IfOk result (λ answer. Gives (λ x. (x.0, x.1.now)) answer (found_at bytes.now)) }
+    ensures memory { OnErr result (BeginsLink bytes.now) }
 {
     let Some((inode, rest)) = plain_inode_at(alloc, bytes)? else {
         return Ok(None);
@@ -202,7 +209,8 @@ fn bytes_at(bytes: &[u8], len: usize) -> Option<(&[u8], &[u8])>
 // An inode, and the bytes after it.
 #[tactic(auto, unfolding(crate::specs::Reading::plain_inode_at))]
 fn plain_inode_at(alloc: Global, bytes: &[u8]) -> Result<Option<(Inode, &[u8])>, AllocError>
-    ensures { IfOk result (λ answer. Gives (λ x. (x.0, x.1.now)) answer (plain_inode_at bytes.now)) }
+    ensures ok { IfOk result (λ answer. Gives (λ x. (x.0, x.1.now)) answer (plain_inode_at bytes.now)) }
+    ensures memory { OnErr result (BeginsLink bytes.now) }
 {
     let Some((fields, rest)) = plain_fields_at(bytes) else {
         return Ok(None);
@@ -230,7 +238,7 @@ struct Fields<'a> {
 // The fields of an inode, and the bytes after them.
 #[tactic(auto, unfolding(crate::specs::Reading::plain_fields_at))]
 fn plain_fields_at(bytes: &[u8]) -> Option<(Fields<'_>, &[u8])>
-    ensures { Gives (λ x. (
+    ensures fields { Gives (λ x. (
       record {
         kind = x.0.kind;
         ino = x.0.ino;
@@ -244,6 +252,7 @@ fn plain_fields_at(bytes: &[u8]) -> Option<(Fields<'_>, &[u8])>
       },
       x.1.now,
     )) result (plain_fields_at bytes.now) }
+    ensures first { IfSome result (λ x. get_or bytes.now 0 0 ≡ x.0.kind) }
 {
     let (kind, rest) = u8_at(bytes)?;
     let (ino, rest) = u64_at(rest)?;
@@ -271,7 +280,7 @@ fn plain_fields_at(bytes: &[u8]) -> Option<(Fields<'_>, &[u8])>
 // The inode of these fields, if there is one.
 #[tactic(auto, unfolding(crate::specs::Reading::inode_said))]
 fn inode_said(alloc: Global, fields: Fields<'_>) -> Result<Option<Inode>, AllocError>
-    ensures { IfOk result (λ answer. answer ≡ inode_said (record {
+    ensures ok { IfOk result (λ answer. answer ≡ inode_said (record {
       kind = fields.entry.kind;
       ino = fields.entry.ino;
       size = fields.entry.size;
@@ -282,6 +291,7 @@ fn inode_said(alloc: Global, fields: Fields<'_>) -> Result<Option<Inode>, AllocE
       pin = fields.entry.pin;
       target = fields.entry.target.now;
     })) }
+    ensures memory { OnErr result (fields.entry.kind ≡ 3) }
 {
     let Some(mode) = Mode::new(fields.mode) else {
         return Ok(None);
@@ -306,7 +316,8 @@ fn inode_said(alloc: Global, fields: Fields<'_>) -> Result<Option<Inode>, AllocE
 
 // The kind of a byte, with the target of a link; the other kinds have none.
 fn kind_from(alloc: Global, byte: u8, target: &[u8]) -> Result<Option<Kind>, AllocError>
-    ensures { IfOk result (λ answer. answer ≡ kind_from byte target.now) }
+    ensures ok { IfOk result (λ answer. answer ≡ kind_from byte target.now) }
+    ensures memory { OnErr result (byte ≡ 3) }
 {
     if byte == SYMLINK {
         return match Target::from_bytes(alloc, target) {
