@@ -199,26 +199,29 @@ Says kind bytes q = IsReply q.0 × Takes (kind ∷ bytes) (reply_bytes q.0) q.1
 behind : (kind : ℕ) (bytes text rest : List ℕ) → Takes bytes text rest → Takes (kind ∷ bytes) (kind ∷ text) rest
 behind kind bytes text rest t = record { parts = ap (λ (x : List ℕ). kind ∷ x) t.parts; rest_fits = t.rest_fits }
 
+said_of : (kind : ℕ) (bytes : List ℕ) (made reply : Reply) (after rest : List ℕ) → Some (made, after) ≡ Some (reply, rest) → Says kind bytes (made, after) → Says kind bytes (reply, rest)
+said_of kind bytes made reply after rest e said = subst (Says kind bytes) (same_Some (made, after) (reply, rest) e) said
+
 entry_takes : (bytes : List ℕ) (reply : Reply) (rest : List ℕ) → IsBytes bytes → found_at bytes ≡ Some (reply, rest) → Says 1 bytes (reply, rest)
 unfolding found_at
 entry_takes bytes reply rest fits read =
     let a = bind_some (plain_inode_at bytes) (λ i. Some (Entry i.0, i.1)) (reply, rest) read in
     let t = inode_takes bytes a.0.0 a.0.1 fits a.1 in
-    subst (Says 1 bytes) (same_Some (Entry a.0.0, a.0.1) (reply, rest) a.2) (t.0, behind 1 bytes (plain_bytes a.0.0) a.0.1 t.1)
+    said_of 1 bytes (Entry a.0.0) reply a.0.1 rest a.2 (t.0, behind 1 bytes (plain_bytes a.0.0) a.0.1 t.1)
 
 link_takes : (bytes : List ℕ) (reply : Reply) (rest : List ℕ) → IsBytes bytes → link_at bytes ≡ Some (reply, rest) → Says 3 bytes (reply, rest)
 unfolding link_at
 link_takes bytes reply rest fits read =
     let a = bind_some (target_at bytes) (λ t. Some (Target t.0, t.1)) (reply, rest) read in
     let t = target_takes bytes a.0.0 a.0.1 fits a.1 in
-    subst (Says 3 bytes) (same_Some (Target a.0.0, a.0.1) (reply, rest) a.2) (t.0, behind 3 bytes (counted_bytes 2 a.0.0) a.0.1 t.1)
+    said_of 3 bytes (Target a.0.0) reply a.0.1 rest a.2 (t.0, behind 3 bytes (counted_bytes 2 a.0.0) a.0.1 t.1)
 
 errno_takes : (bytes : List ℕ) (reply : Reply) (rest : List ℕ) → IsBytes bytes → errno_at bytes ≡ Some (reply, rest) → Says 5 bytes (reply, rest)
 unfolding errno_at
 errno_takes bytes reply rest fits read =
     let a = bind_some (number_at 2 bytes) (λ n. Some (Errno n.0, n.1)) (reply, rest) read in
     let t = number_takes 2 width_2 bytes a.0.0 a.0.1 fits a.1 in
-    subst (Says 5 bytes) (same_Some (Errno a.0.0, a.0.1) (reply, rest) a.2) (omega (arith, t.1), behind 5 bytes (little_bytes 2 a.0.0) a.0.1 t.0)
+    said_of 5 bytes (Errno a.0.0) reply a.0.1 rest a.2 (omega (arith, t.1), behind 5 bytes (little_bytes 2 a.0.0) a.0.1 t.0)
 
 entries_joined : (bytes t u rest : List ℕ) (byte count : ℕ) (more : Bool) (list : List Listed) → more_byte more ≡ byte → count < 2 ^ 64 → length list ≡ count → AllByRecursion IsListed list
     → Takes bytes (byte ∷ []) t → Takes t (little_bytes 8 count) u → Takes u (flat_map listed_bytes list) rest → Says 2 bytes (Entries list more, rest)
@@ -240,7 +243,7 @@ entries_takes bytes reply rest fits read =
     let t0 = byte_takes bytes a.0.0 a.0.1 fits a.1 in
     let t1 = number_takes 8 width_8 a.0.1 n.0.0 n.0.1 t0.rest_fits n.1 in
     let t2 = list_takes listed_takes n.0.0 n.0.1 l.0.0 l.0.1 t1.0.rest_fits l.1 in
-    subst (Says 2 bytes) (same_Some (Entries l.0.0 m.0, l.0.1) (reply, rest) l.2)
+    said_of 2 bytes (Entries l.0.0 m.0) reply l.0.1 rest l.2
     (entries_joined bytes a.0.1 n.0.1 l.0.1 a.0.0 n.0.0 m.0 l.0.0 (more_takes a.0.0 m.0 m.1) (omega (arith, t1.1)) t2.0 t2.1 t0 t1.0 t2.2)
 
 said_takes : (kind : ℕ) (bytes : List ℕ) (reply : Reply) (rest : List ℕ) → IsBytes bytes → said_at kind bytes ≡ Some (reply, rest) → Says kind bytes (reply, rest)
@@ -254,7 +257,7 @@ said_takes kind bytes reply rest fits read = go (eqb kind 1) (eqb kind 2) (eqb k
     go true b c d e ha hb hc hd he read = subst P (sym (eqb-true kind 1 ha)) (entry_takes bytes reply rest fits read)
     go false true c d e ha hb hc hd he read = subst P (sym (eqb-true kind 2 hb)) (entries_takes bytes reply rest fits read)
     go false false true d e ha hb hc hd he read = subst P (sym (eqb-true kind 3 hc)) (link_takes bytes reply rest fits read)
-    go false false false true e ha hb hc hd he read = subst P (sym (eqb-true kind 4 hd)) (subst (Says 4 bytes) (same_Some (Done, bytes) (reply, rest) read) (tt, record { parts = refl; rest_fits = fits }))
+    go false false false true e ha hb hc hd he read = subst P (sym (eqb-true kind 4 hd)) (said_of 4 bytes Done reply bytes rest read (tt, record { parts = refl; rest_fits = fits }))
     go false false false false true ha hb hc hd he read = subst P (sym (eqb-true kind 5 he)) (errno_takes bytes reply rest fits read)
     go false false false false false ha hb hc hd he read = absurd cc
 

@@ -1,5 +1,5 @@
--- Reading a reply from the front of bytes: each reader gives what stands there, and the bytes after it. Only this crate's
--- own contracts use these words.
+-- Reading a reply from the front of bytes: each reader gives what it finds there, and the bytes after it. Only this
+-- crate's own contracts use these words.
 use Rattle.std.specs.Prelude.{ℕ, zero, suc, ◌-◌, Bool, true, false, ◌==◌, nat_lt, nat_le, if◌then◌else◌, List, [], ◌∷◌, length, take, drop, get_or, Option, Some, None}
 use Rattle.mds_types.specs.declared.ids.Rank.{Rank}
 use Rattle.mds_types.specs.declared.inodes.Inode.{Inode}
@@ -34,7 +34,7 @@ target_at bytes = do
   target ← counted_at 2 bytes
   if is_target target.0 then Some target else None
 
--- the kind of a byte, with the target of a link; nothing stands there for the other kinds
+-- the kind of a byte, with the target of a link; the other kinds have none
 abbrev pub kind_from : ℕ → List ℕ → Option Kind
 kind_from byte target =
     if byte == 3 then (if is_target target then Some (Symlink target) else None)

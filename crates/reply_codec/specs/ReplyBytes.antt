@@ -96,6 +96,6 @@ abbrev pub BeginsLink : List ℕ → Type 0
 BeginsLink bytes = get_or bytes 0 0 ≡ 3
 
 -- bytes that begin as a listing, as a target or as a link's inode: what is read of others takes no memory
-abbrev pub MayTakeMemory : List ℕ → Type 0
-MayTakeMemory bytes =
+abbrev pub ReadsIntoMemory : List ℕ → Type 0
+ReadsIntoMemory bytes =
     (get_or bytes 0 0 ≡ 2) ⊎ ((get_or bytes 0 0 ≡ 3) ⊎ ((get_or bytes 0 0 ≡ 1) × (get_or bytes 1 0 ≡ 3)))

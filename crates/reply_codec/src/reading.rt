@@ -3,7 +3,7 @@ ghost use Rattle.std.specs.Prelude.{◌≡◌, ◌∷◌, IfOk, IfSome, OnErr, g
 ghost use Rattle.dirfrag_codec.specs.Grammar.{Decodes};
 ghost use Rattle.dirfrag_codec.specs.Reading.{Gives};
 ghost use Rattle.reply_codec.specs.Reading.{InodeFields, bytes_at, counted_at, entry_name_at, errno_at, found_at, inode_said, kind_from, link_at, list_at, listed_at, listing_at, more_of, pin_from, plain_fields_at, plain_inode_at, reply_at, said_at, target_at};
-ghost use Rattle.reply_codec.specs.ReplyBytes.{BeginsLink, SpellsReply, MayTakeMemory};
+ghost use Rattle.reply_codec.specs.ReplyBytes.{BeginsLink, ReadsIntoMemory, SpellsReply};
 ghost use Rattle.reply_codec.specs.Values.{reply_from};
 
 use crate::writing::{DIR, DONE, ENTRIES, ENTRY, ERRNO, FILE, SYMLINK, TARGET};
@@ -13,12 +13,12 @@ use mds_types::{
 };
 use std::alloc::{AllocError, Global};
 
-/// The reply whose bytes these are; none, where they are no reply's. Takes memory for a listing and for targets, so there
-/// is an error for bytes that begin as these alone.
+/// The reply whose bytes these are; none, where they are no reply's. Takes memory for listings and targets alone, so there
+/// is an error only where bytes begin as one of them.
 pub fn decode_reply(alloc: Global, bytes: &[u8]) -> Result<Option<Reply>, AllocError>
     ensures spelled { IfOk result (Decodes SpellsReply bytes.now) }
     ensures value { IfOk result (λ answer. answer ≡ reply_from bytes.now) }
-    ensures memory { OnErr result (MayTakeMemory bytes.now) }
+    ensures memory { OnErr result (ReadsIntoMemory bytes.now) }
 {
     let Some((reply, rest)) = reply_at(alloc, bytes)? else {
         return Ok(None);
@@ -34,7 +34,7 @@ pub fn decode_reply(alloc: Global, bytes: &[u8]) -> Result<Option<Reply>, AllocE
 #[tactic(auto, unfolding(crate::specs::Reading::reply_at))]
 fn reply_at(alloc: Global, bytes: &[u8]) -> Result<Option<(Reply, &[u8])>, AllocError>
     ensures ok { IfOk result (λ answer. Gives (λ x. (x.0, x.1.now)) answer (reply_at bytes.now)) }
-    ensures memory { OnErr result (MayTakeMemory bytes.now) }
+    ensures memory { OnErr result (ReadsIntoMemory bytes.now) }
 {
     let Some((kind, rest)) = u8_at(bytes) else {
         return Ok(None);
@@ -45,7 +45,7 @@ fn reply_at(alloc: Global, bytes: &[u8]) -> Result<Option<(Reply, &[u8])>, Alloc
 // What stands behind the byte of a kind of replies, and the bytes after it.
 fn said_at(alloc: Global, kind: u8, bytes: &[u8]) -> Result<Option<(Reply, &[u8])>, AllocError>
     ensures ok { IfOk result (λ answer. Gives (λ x. (x.0, x.1.now)) answer (said_at kind bytes.now)) }
-    ensures memory { OnErr result (MayTakeMemory (kind ∷ bytes.now)) }
+    ensures memory { OnErr result (ReadsIntoMemory (kind ∷ bytes.now)) }
 {
     match kind {
         ENTRY => found_at(alloc, bytes),

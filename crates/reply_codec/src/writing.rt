@@ -4,7 +4,7 @@ ghost use Rattle.std.specs.List.{flat_map, AllByRecursion};
 ghost use Rattle.byteorder.specs.Endian.{little_bytes};
 ghost use Rattle.mds_types.specs.Name.{IsTarget};
 ghost use Rattle.dirfrag_codec.specs.EntryRecord.{HasTarget, kind_byte, target_of};
-ghost use Rattle.reply_codec.specs.ReplyBytes.{HasRank, IsInode, IsListed, AreListed, IsReply, SpellsReply, plain_bytes, listed_bytes, listing_bytes, pin_number, reply_bytes, counted_bytes};
+ghost use Rattle.reply_codec.specs.ReplyBytes.{AreListed, HasRank, IsInode, IsListed, IsReply, SpellsReply, counted_bytes, listed_bytes, listing_bytes, pin_number, plain_bytes, reply_bytes};
 
 use dirfrag_codec::fields::{put_u16, put_u32, put_u64};
 use dirfrag_codec::has_widths;
@@ -70,7 +70,8 @@ fn put_entries(out: &mut Vec<u8>, list: &[(Name, Inode)], more: bool) -> Result<
 
 // Appends names with their inodes.
 fn put_list(out: &mut Vec<u8>, list: &[(Name, Inode)]) -> Result<(), AllocError>
-    ensures { OnOk result (AllByRecursion IsListed list.now × (out.new.items ≡ out.old.items ++ flat_map listed_bytes list.now)) }
+    ensures known { OnOk result (AllByRecursion IsListed list.now) }
+    ensures bytes { OnOk result (out.new.items ≡ out.old.items ++ flat_map listed_bytes list.now) }
 {
     for entry in list {
         put_listed(out, entry)?;
