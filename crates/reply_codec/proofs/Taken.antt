@@ -199,7 +199,7 @@ Says kind bytes q = IsReply q.0 × Takes (kind ∷ bytes) (reply_bytes q.0) q.1
 behind : (kind : ℕ) (bytes text rest : List ℕ) → Takes bytes text rest → Takes (kind ∷ bytes) (kind ∷ text) rest
 behind kind bytes text rest t = record { parts = ap (λ (x : List ℕ). kind ∷ x) t.parts; rest_fits = t.rest_fits }
 
-said_of : (kind : ℕ) (bytes : List ℕ) (made reply : Reply) (after rest : List ℕ) → Some (made, after) ≡ Some (reply, rest) → Says kind bytes (made, after) → Says kind bytes (reply, rest)
+said_of : (kind : ℕ) (bytes : List ℕ) (made reply : Reply) (after rest : List ℕ) → ◌≡◌ {A = Option (Reply × List ℕ)} (Some (made, after)) (Some (reply, rest)) → Says kind bytes (made, after) → Says kind bytes (reply, rest)
 said_of kind bytes made reply after rest e said = subst (Says kind bytes) (same_Some (made, after) (reply, rest) e) said
 
 entry_takes : (bytes : List ℕ) (reply : Reply) (rest : List ℕ) → IsBytes bytes → found_at bytes ≡ Some (reply, rest) → Says 1 bytes (reply, rest)
