@@ -40,7 +40,7 @@ list_again again (x ∷ xs) rest (known, all) =
 abbrev pub ListTaken : ℕ → List ℕ → List Listed × List ℕ → Type 0
 ListTaken n bytes p = (length p.0 ≡ n) × AllByRecursion IsListed p.0 × Takes bytes (flat_map listed_bytes p.0) p.1
 
--- names that are read are those that stand there
+-- names that are read are those that the bytes spell
 pub list_takes : ((bytes : List ℕ) (x : Listed) (rest : List ℕ) → IsBytes bytes → listed_at bytes ≡ Some (x, rest) → IsListed x × Takes bytes (listed_bytes x) rest)
     → (n : ℕ) (bytes : List ℕ) (xs : List Listed) (rest : List ℕ) → IsBytes bytes → list_at n bytes ≡ Some (xs, rest) → ListTaken n bytes (xs, rest)
 list_takes takes zero bytes xs rest fits read = subst (ListTaken 0 bytes) (same_Some ([], bytes) (xs, rest) read) (refl, tt, record { parts = refl; rest_fits = fits })

@@ -1,4 +1,4 @@
--- What is read of a reply is what stands there.
+-- What is read of a reply is what its bytes spell.
 use Rattle.reply_codec.proofs.Common.{AllByRecursion, AreWidths, Bool, Dir, Done, Entries, Entry, Errno, File, Fit, HasRank, HasTarget, Inode, InodeFields, IsBytes, IsBytes-drop, IsInode, IsListed, IsName, IsReply, IsTarget, IsWidth, Kind, List, None, Option, Rank, Reply, Some, Symlink, Takes, Takes-then, Target, [], ap, arith, bind_some, byte_at, byte_takes, bytes_at, cond, cond_some, counted_at, counted_bytes, drop, eqb, eqb-true, false, fields_bytes, flat_map, get_or, guard_not, inode_from, inode_numbers, inode_widths, is_name, is_target, kind_byte, kind_from, leb, length, length-take, list_at, listed_bytes, little_bytes, ltb, ltb-false, mode_from, more_byte, more_of, name_decides, nat_tests, nil_from_length, number_at, number_takes, numbers_are, numbers_at, numbers_take, pin_from, pin_number, plain_fields, refl, reply_bytes, said_at, same_Some, subst, sym, take, take-append-drop, target_of, true, width_1, width_2, width_4, width_8, ℕ, ◌++◌, ◌+◌, ◌-◌, ◌<◌, ◌>>=◌, ◌^◌, ◌∙◌, ◌∷◌, ◌≡◌, ◌≤◌}
 use Rattle.reply_codec.specs.ReplyBytes.{plain_bytes}
 use Rattle.reply_codec.specs.Reading.{listing_at, found_at, errno_at, plain_fields_at, plain_inode_at, inode_said, link_at, listed_at, entry_name_at, reply_at, target_at}

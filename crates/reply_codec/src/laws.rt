@@ -3,8 +3,8 @@ ghost use Rattle.dirfrag_codec.specs.Grammar.{HasOneMeaning, HasOneSpelling, Not
 ghost use Rattle.reply_codec.specs.ReplyBytes.{SpellsReply};
 ghost use Rattle.reply_codec.specs.Values.{reply_from};
 
-/// Bytes are one reply alone, a reply has one spelling, and no reply begins another. `reply_from` is the reply that
-/// bytes are.
+/// Bytes spell at most one reply, a reply has one spelling, and no spelling begins another. `reply_from` is the reply
+/// that bytes spell.
 pub fn replies_are_spelled_once()
     ensures meaning { HasOneMeaning SpellsReply }
     ensures spelling { HasOneSpelling SpellsReply }

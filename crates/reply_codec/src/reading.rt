@@ -13,8 +13,8 @@ use mds_types::{
 };
 use std::alloc::{AllocError, Global};
 
-/// The reply whose bytes these are; none, where they are no reply's. Takes memory for listings and targets alone, so there
-/// is an error only where bytes begin as one of them.
+/// The reply whose bytes these are; none, where they are no reply's. Takes memory for listings and targets alone, so
+/// there is an error only where bytes begin as a listing, a target or a link's inode.
 pub fn decode_reply(alloc: Global, bytes: &[u8]) -> Result<Option<Reply>, AllocError>
     ensures spelled { IfOk result (Decodes SpellsReply bytes.now) }
     ensures value { IfOk result (λ answer. answer ≡ reply_from bytes.now) }
@@ -42,7 +42,7 @@ fn reply_at(alloc: Global, bytes: &[u8]) -> Result<Option<(Reply, &[u8])>, Alloc
     said_at(alloc, kind, rest)
 }
 
-// What stands behind the byte of a kind of replies, and the bytes after it.
+// The reply of this kind, and the bytes after it.
 fn said_at(alloc: Global, kind: u8, bytes: &[u8]) -> Result<Option<(Reply, &[u8])>, AllocError>
     ensures ok { IfOk result (λ answer. Gives (λ x. (x.0, x.1.now)) answer (said_at kind bytes.now)) }
     ensures memory { OnErr result (ReadsIntoMemory (kind ∷ bytes.now)) }
@@ -180,7 +180,7 @@ fn target_at(alloc: Global, bytes: &[u8]) -> Result<Option<(Target, &[u8])>, All
     }
 }
 
-// Bytes behind their number in one byte, and the bytes after them.
+// Bytes behind a length of 1 byte, and the bytes after them.
 fn name_part(bytes: &[u8]) -> Option<(&[u8], &[u8])>
     ensures { Gives (λ x. (x.0.now, x.1.now)) result (counted_at 1 bytes.now) }
 {
@@ -188,7 +188,7 @@ fn name_part(bytes: &[u8]) -> Option<(&[u8], &[u8])>
     bytes_at(rest, usize::from(len))
 }
 
-// Bytes behind their number in two bytes, and the bytes after them.
+// Bytes behind a length of 2 bytes, and the bytes after them.
 fn target_part(bytes: &[u8]) -> Option<(&[u8], &[u8])>
     ensures { Gives (λ x. (x.0.now, x.1.now)) result (counted_at 2 bytes.now) }
 {
@@ -277,7 +277,7 @@ fn plain_fields_at(bytes: &[u8]) -> Option<(Fields<'_>, &[u8])>
     Some((fields, rest))
 }
 
-// The inode of these fields, if there is one.
+// The inode of these fields; none, where no inode has them.
 #[tactic(auto, unfolding(crate::specs::Reading::inode_said))]
 fn inode_said(alloc: Global, fields: Fields<'_>) -> Result<Option<Inode>, AllocError>
     ensures ok { IfOk result (λ answer. answer ≡ inode_said (record {

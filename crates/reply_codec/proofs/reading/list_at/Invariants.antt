@@ -1,4 +1,4 @@
--- What is left to read goes on with the names so far as the whole does.
+-- The whole list is the names so far and the names that are left.
 use Rattle.reply_codec.proofs.Common.{list_at, length, ◌-◌, ◌≡◌, ◌≤◌}
 use Rattle.reply_codec.proofs.Items.{preceded}
 use Rattle.reply_codec.proofs.reading.list_at.Given as goal

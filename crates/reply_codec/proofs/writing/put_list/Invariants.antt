@@ -1,4 +1,4 @@
--- The bytes so far and those of the names to come are the whole. Where the names to come are names, all are.
+-- The bytes so far and those of the names that are left are the whole. If the names that are left are names, all are.
 use Rattle.reply_codec.proofs.Common.{AllByRecursion, IsListed, drop, flat_map, listed_bytes, ◌++◌, ◌≡◌}
 use Rattle.reply_codec.proofs.writing.put_list.Given as goal
 
