@@ -83,7 +83,7 @@ impl<S: Keep + Drop> Admin<S> {
     pub(crate) fn forget_behind(&mut self, mode: Mode, came: &Result<OutputLine, AllocError>)
         ensures count { self.new.operations ≡ self.old.operations }
         ensures done { IfOk came.now (λ _. ForgetsBehind mode.history (seen self.old) (seen self.new)) }
-        ensures left { OnErr came.now (self.new ≡ self.old) }
+        ensures left { OnErr came.now (seen self.new ≡ seen self.old) }
     {
         if came.is_ok() {
             self.forget(mode);

@@ -16,7 +16,7 @@ returns-in-Command-clause-prints g c =
     let middle = seen c.carry-came.new.self in
     let new = seen c.forget_behind.new.self in
     let did = then_forgets_if c.args.mode.history (λ (m : Admin) line. CarriesOut c.args.mode old m c.in-Command.command line) middle new c.carry-came.result c.carry-came.ensures.line c.forget_behind.ensures.done in
-    let lacks = none_forgotten c.carry-came.result (λ (a : Admin). LacksForCommand old a c.in-Command.command) middle new c.carry-came.ensures.err ? in
+    let lacks = none_forgotten c.carry-came.result (λ (a : Admin). LacksForCommand old a c.in-Command.command) middle new c.carry-came.ensures.err c.forget_behind.ensures.left in
     subst (λ (l : Line). PrintsOf (AnswersLine (DoesUnder c.args.mode) old new l) c.args.waiting.now c.print_came-printed.new.waiting c.args.line (g.W.Write.contents c.args.writer.now) (g.W.Write.contents c.print_came-printed.new.writer) c.print_came-printed.result)
     (sym c.in-Command.is)
     (command_printed (DoesUnder c.args.mode) old new c.in-Command.command c.args.waiting.now c.print_came-printed.new.waiting c.args.line (g.W.Write.contents c.args.writer.now) (g.W.Write.contents c.print_came-printed.new.writer) c.print_came-printed.result c.carry-came.result
