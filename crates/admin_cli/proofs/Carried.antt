@@ -1,6 +1,6 @@
 -- What a command does under the options of a script.
 use Rattle.admin_cli.proofs.Common.{Admin, Command, Executes, OutputLine, refl, subst, sym, ◌≡◌}
-use Rattle.std.specs.Prelude.{Bool, Err, IfOk, MatchBool, None, Ok, Option, Result, Some, false, true, ℕ}
+use Rattle.std.specs.Prelude.{Bool, Err, IfOk, MatchBool, None, Ok, OnErr, Option, Result, Some, false, true, ℕ}
 use Rattle.script_text.specs.declared.commands.Command.TheVariants as command
 use Rattle.script_text.specs.declared.store_commands.StoreCommand.{StoreCommand}
 use Rattle.script_text.specs.declared.store_commands.StoreCommand.TheVariants as store
@@ -19,10 +19,16 @@ pub then_forgets : (history : Option ℕ) (Did : Admin → Type 0) (middle new :
 then_forgets None Did middle new did same = subst Did (sym same) did
 then_forgets (Some keep) Did middle new did forgot = (middle, did, forgot)
 
-pub then_forgets_of : (history : Option ℕ) (Did : OutputLine → Admin → Type 0) {E : Type 0} (result : Result OutputLine E) (middle new : Admin) → IfOk result (λ line. Did line middle) → ForgetsBehind history middle new
-    → IfOk result (λ line. ThenForgets history (Did line) new)
-then_forgets_of history Did (Ok line) middle new did forgot = then_forgets history (Did line) middle new did forgot
-then_forgets_of history Did (Err e) middle new did forgot = tt
+module _ {E : Type 0} (history : Option ℕ) (Did : Admin → OutputLine → Type 0) (middle new : Admin) where
+  -- so behind a line that was done,
+  pub then_forgets_if : (came : Result OutputLine E) → IfOk came (Did middle) → IfOk came (λ _. ForgetsBehind history middle new) → IfOk came (λ line. ThenForgets history (λ m. Did m line) new)
+  then_forgets_if (Ok line) did forgot = then_forgets history (λ m. Did m line) middle new did forgot
+  then_forgets_if (Err e) did forgot = tt
+
+-- and one that wasn't leaves what it left
+pub none_forgotten : {E : Type 0} (came : Result OutputLine E) (Lacks : Admin → Type 0) (middle new : Admin) → OnErr came (Lacks middle) → OnErr came (new ≡ middle) → OnErr came (Lacks new)
+none_forgotten (Ok line) Lacks middle new lacks same = tt
+none_forgotten (Err e) Lacks middle new lacks same = subst Lacks (sym same) lacks
 
 -- with no option a script does what it says
 same_store : (old new : Admin) (c : StoreCommand) (line : OutputLine) → DoesStoreUnder plain old new c line ≡ Executes old new (command.Store c) line

@@ -2,7 +2,7 @@
 //! and a beginning of the history is forgotten behind each line.
 ghost use Rattle.std.specs.Prelude.{◌≡◌, ◌+◌, ◌<◌, ◌≤◌, ◌^◌, IfOk, OnErr};
 ghost use Rattle.admin_cli.specs.Execute.{LacksForCommand};
-ghost use Rattle.admin_cli.specs.Modes.{AsksOperation, AsksRequest, CarriesOut, DoesUnder, DoesStoreUnder, AsksNow, asked_line as line_of};
+ghost use Rattle.admin_cli.specs.Modes.{AsksOperation, AsksRequest, CarriesOut, DoesStoreUnder, AsksNow, asked_line as line_of};
 ghost use Rattle.admin_cli.specs.Admin.{seen};
 
 use crate::commands::Admin;
@@ -17,30 +17,10 @@ use std::alloc::{AllocError, Global};
 use std::thread::Threads;
 
 impl<S: Keep + Drop> Admin<S> {
-    /// Does what a command asks for under the options of the script, and answers the line to print; else as `execute`.
+    /// Does what a command asks for by the options of the script, and answers the line to print; else as `execute`. Nothing
+    /// is forgotten.
     #[inline(never)]
     pub fn carry(
-        &mut self,
-        rt: &(impl AllocGlobal + Threads + Sync),
-        mode: Mode,
-        command: Command,
-    ) -> Result<OutputLine, AllocError>
-        requires { self.old.operations + 1 < 2 ^ 64 }
-        ensures line { IfOk result (DoesUnder mode (seen self.old) (seen self.new) command) }
-        ensures err { OnErr result (LacksForCommand (seen self.old) (seen self.new) command) }
-        ensures count { self.new.operations ≤ self.old.operations + 1 }
-    {
-        let shown = self.carry_out(rt, mode, command);
-        // the answer stays where it is, so it is moved nowhere
-        if shown.is_ok() {
-            self.forget(mode);
-        }
-        shown
-    }
-
-    // Does so, and forgets nothing.
-    #[inline(always)]
-    fn carry_out(
         &mut self,
         rt: &(impl AllocGlobal + Threads + Sync),
         mode: Mode,

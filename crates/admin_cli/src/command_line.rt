@@ -20,7 +20,7 @@ pub enum Options<'a> {
         /// Whether a request is brought to its answer by its own line.
         asks: bool,
         /// How many entries of the history stay behind each line; all of them where none is said.
-        history: Option<usize>,
+        history: Option<u32>,
         /// The file that has the tree, and takes it at each flush.
         store: Option<&'a str>,
         /// Whether standard error tells why a line was refused, deferred or forwarded, or is no command.
@@ -73,7 +73,7 @@ fn of_script<'a>(script: &ArgMatches<'a>) -> Option<Options<'a>>
             cache,
             limit,
             asks: script.get_flag("ask"),
-            history: script.get_one::<usize>("history"),
+            history: script.get_one::<u32>("history"),
             store: script.get_str("store"),
             explains: script.get_flag("explain"),
         });
@@ -229,7 +229,7 @@ fn history<'a>(alloc: Global) -> Arg<'a> {
     Arg::new(alloc, "history")
         .long("history")
         .value_name("N")
-        .value_parser(value_parser!(usize))
+        .value_parser(value_parser!(u32))
         .help("Forget behind each line all but the last N requests of the history")
 }
 

@@ -74,7 +74,19 @@ impl<S: Keep + Drop> Admin<S> {
         ensures forgot { ForgetsBehind mode.history (seen self.old) (seen self.new) }
     {
         if let Some(keep) = mode.history {
-            let _ = self.book.forget(keep);
+            let _ = self.book.forget(keep as usize);
+        }
+    }
+
+    /// So behind a line that was done.
+    #[inline(always)]
+    pub(crate) fn forget_behind(&mut self, mode: Mode, came: &Result<OutputLine, AllocError>)
+        ensures count { self.new.operations ≡ self.old.operations }
+        ensures done { IfOk came.now (λ _. ForgetsBehind mode.history (seen self.old) (seen self.new)) }
+        ensures left { OnErr came.now (seen self.new ≡ seen self.old) }
+    {
+        if came.is_ok() {
+            self.forget(mode);
         }
     }
 

@@ -9,5 +9,5 @@ pub struct Mode {
     pub keeps: bool,
     /// How many entries of the history stay behind each line; all of them where none is said. The book forgets those
     /// before, in bulk (`Book::forget`): fewer than twice as many stay.
-    pub history: Option<usize>,
+    pub history: Option<u32>,
 }

@@ -421,6 +421,7 @@ fn do_line<W: Write, S: Keep + Drop, T: Tell>(
         }
         Line::Command(command) => {
             let came = admin.carry(rt, mode, command);
+            admin.forget_behind(mode, &came);
             tell_reason(rt.alloc(), line, bytes, &came, admin.book(), teller);
             let printed = print_came(rt.alloc(), line, &came, waiting, writer);
             drop(came);
