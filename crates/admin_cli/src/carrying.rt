@@ -23,11 +23,11 @@ impl<S: Keep + Drop> Admin<S> {
     pub fn carry(
         &mut self,
         rt: &(impl AllocGlobal + Threads + Sync),
-        mode: Mode,
+        mode: &Mode,
         command: Command,
     ) -> Result<OutputLine, AllocError>
         requires { self.old.operations + 1 < 2 ^ 64 }
-        ensures line { IfOk result (CarriesOut mode (seen self.old) (seen self.new) command) }
+        ensures line { IfOk result (CarriesOut mode.now (seen self.old) (seen self.new) command) }
         ensures err { OnErr result (LacksForCommand (seen self.old) (seen self.new) command) }
         ensures count { self.new.operations ≤ self.old.operations + 1 }
     {
@@ -53,11 +53,11 @@ impl<S: Keep + Drop> Admin<S> {
     fn carry_store(
         &mut self,
         rt: &(impl AllocGlobal + Threads + Sync),
-        mode: Mode,
+        mode: &Mode,
         command: StoreCommand,
     ) -> Result<OutputLine, AllocError>
         requires { self.old.operations + 1 < 2 ^ 64 }
-        ensures line { IfOk result (DoesStoreUnder mode (seen self.old) (seen self.new) command) }
+        ensures line { IfOk result (DoesStoreUnder mode.now (seen self.old) (seen self.new) command) }
         ensures err { OnErr result (LacksForCommand (seen self.old) (seen self.new) (Command.Store command)) }
         ensures count { self.new.operations ≤ self.old.operations + 1 }
     {

@@ -69,9 +69,9 @@ impl<S: Keep + Drop> Admin<S> {
     /// Forgets behind a line what the script's options say. Takes memory for kept replies alone, and forgets less where it
     /// is refused.
     #[inline(always)]
-    pub(crate) fn forget(&mut self, mode: Mode)
+    pub(crate) fn forget(&mut self, mode: &Mode)
         ensures count { self.new.operations ≡ self.old.operations }
-        ensures forgot { ForgetsBehind mode.history (seen self.old) (seen self.new) }
+        ensures forgot { ForgetsBehind mode.now.history (seen self.old) (seen self.new) }
     {
         if let Some(keep) = mode.history {
             let _ = self.book.forget(keep as usize);
@@ -80,9 +80,9 @@ impl<S: Keep + Drop> Admin<S> {
 
     /// So behind a line that was done.
     #[inline(always)]
-    pub(crate) fn forget_behind(&mut self, mode: Mode, came: &Result<OutputLine, AllocError>)
+    pub(crate) fn forget_behind(&mut self, mode: &Mode, came: &Result<OutputLine, AllocError>)
         ensures count { self.new.operations ≡ self.old.operations }
-        ensures done { IfOk came.now (λ _. ForgetsBehind mode.history (seen self.old) (seen self.new)) }
+        ensures done { IfOk came.now (λ _. ForgetsBehind mode.now.history (seen self.old) (seen self.new)) }
         ensures left { OnErr came.now (seen self.new ≡ seen self.old) }
     {
         if came.is_ok() {

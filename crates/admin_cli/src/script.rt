@@ -136,7 +136,7 @@ where
 {
     book.is_sound();
     let mut admin = Admin::new(rt.alloc(), book);
-    let ended = run_input(rt, reader, writer, &mut admin, mode, teller);
+    let ended = run_input(rt, reader, writer, &mut admin, &mode, teller);
     Ran {
         book: admin.into_book(),
         ended,
@@ -171,13 +171,13 @@ fn run_input<R: Read + Drop, W: Write, S: Keep + Drop, T: Tell>(
     reader: R,
     writer: &mut W,
     admin: &mut Admin<S>,
-    mode: Mode,
+    mode: &Mode,
     teller: &T,
 ) -> Result<(), ScriptFault>
     requires { admin.old.operations ≡ 0 }
-    ensures runs { RunsOrNot (DoesUnder mode) (seen admin.old) (R.remaining reader) (W.contents writer.old)
+    ensures runs { RunsOrNot (DoesUnder mode.now) (seen admin.old) (R.remaining reader) (W.contents writer.old)
         (W.contents writer.new) result }
-    ensures leaves { LeavesAdmin (DoesUnder mode) (seen admin.old) (seen admin.new) (R.remaining reader) (W.contents writer.old)
+    ensures leaves { LeavesAdmin (DoesUnder mode.now) (seen admin.old) (seen admin.new) (R.remaining reader) (W.contents writer.old)
         (W.contents writer.new) result }
 {
     let alloc = rt.alloc();
@@ -231,14 +231,14 @@ fn run_lines<R: ReadAhead, W: Write, S: Keep + Drop, T: Tell>(
     waiting: &mut Waiting,
     writer: &mut W,
     admin: &mut Admin<S>,
-    mode: Mode,
+    mode: &Mode,
     teller: &T,
 ) -> Result<(), ScriptFault>
     requires first { admin.old.operations ≡ 0 }
     requires empty { IsEmpty waiting.old }
-    ensures runs { RunsWaiting (DoesUnder mode) (seen admin.old) waiting.new (R.remaining reader.old)
+    ensures runs { RunsWaiting (DoesUnder mode.now) (seen admin.old) waiting.new (R.remaining reader.old)
         (W.contents writer.old) (W.contents writer.new) result }
-    ensures leaves { LeavesWaiting (DoesUnder mode) (seen admin.old) (seen admin.new) waiting.new (R.remaining reader.old)
+    ensures leaves { LeavesWaiting (DoesUnder mode.now) (seen admin.old) (seen admin.new) waiting.new (R.remaining reader.old)
         (W.contents writer.old) (W.contents writer.new) result }
     ensures failed { HasReaderFailed buffer.new.failed result }
 {
@@ -283,7 +283,7 @@ fn run_line<W: Write, S: Keep + Drop, T: Tell>(
     line: u64,
     bytes: &[u8],
     admin: &mut Admin<S>,
-    mode: Mode,
+    mode: &Mode,
     waiting: &mut Waiting,
     writer: &mut W,
     teller: &T,
@@ -291,7 +291,7 @@ fn run_line<W: Write, S: Keep + Drop, T: Tell>(
     requires room { admin.old.operations + 1 < 2 ^ 64 }
     requires short { length bytes.now ≤ 16384 }
     ensures count { admin.new.operations ≤ admin.old.operations + 1 }
-    ensures runs { PrintsOf (DoesBytes (DoesUnder mode) (seen admin.old) (seen admin.new) bytes.now) waiting.old waiting.new line
+    ensures runs { PrintsOf (DoesBytes (DoesUnder mode.now) (seen admin.old) (seen admin.new) bytes.now) waiting.old waiting.new line
         (W.contents writer.old) (W.contents writer.new) result }
 {
     // words about a line want the command that it was, so no shorter way is taken
@@ -319,14 +319,14 @@ fn do_operation<W: Write, S: Keep + Drop>(
     line: u64,
     op: Op,
     admin: &mut Admin<S>,
-    mode: Mode,
+    mode: &Mode,
     waiting: &mut Waiting,
     writer: &mut W,
 ) -> Result<(), ScriptFault>
     requires count { admin.old.operations + 1 < 2 ^ 64 }
-    requires plain { mode.asks ≡ false }
+    requires plain { mode.now.asks ≡ false }
     ensures count { admin.new.operations ≤ admin.old.operations + 1 }
-    ensures prints { PrintsOf (AnswersLine (DoesUnder mode) (seen admin.old) (seen admin.new) (asked.Command (Operation op))) waiting.old waiting.new line
+    ensures prints { PrintsOf (AnswersLine (DoesUnder mode.now) (seen admin.old) (seen admin.new) (asked.Command (Operation op))) waiting.old waiting.new line
         (W.contents writer.old) (W.contents writer.new) result }
 {
     let came = admin.operate(alloc, op);
@@ -348,14 +348,14 @@ fn ask_operation<W: Write, S: Keep + Drop>(
     line: u64,
     op: Op,
     admin: &mut Admin<S>,
-    mode: Mode,
+    mode: &Mode,
     waiting: &mut Waiting,
     writer: &mut W,
 ) -> Result<(), ScriptFault>
     requires count { admin.old.operations + 1 < 2 ^ 64 }
-    requires asks { mode.asks ≡ true }
+    requires asks { mode.now.asks ≡ true }
     ensures count { admin.new.operations ≤ admin.old.operations + 1 }
-    ensures prints { PrintsOf (AnswersLine (DoesUnder mode) (seen admin.old) (seen admin.new) (asked.Command (Operation op))) waiting.old
+    ensures prints { PrintsOf (AnswersLine (DoesUnder mode.now) (seen admin.old) (seen admin.new) (asked.Command (Operation op))) waiting.old
         waiting.new line (W.contents writer.old) (W.contents writer.new) result }
 {
     let shown = admin.ask_operation(alloc, op);
@@ -372,7 +372,7 @@ fn run_other<W: Write, S: Keep + Drop, T: Tell>(
     line: u64,
     bytes: &[u8],
     admin: &mut Admin<S>,
-    mode: Mode,
+    mode: &Mode,
     waiting: &mut Waiting,
     writer: &mut W,
     teller: &T,
@@ -380,7 +380,7 @@ fn run_other<W: Write, S: Keep + Drop, T: Tell>(
     requires room { admin.old.operations + 1 < 2 ^ 64 }
     requires short { length bytes.now ≤ 16384 }
     ensures count { admin.new.operations ≤ admin.old.operations + 1 }
-    ensures runs { PrintsOf (DoesBytes (DoesUnder mode) (seen admin.old) (seen admin.new) bytes.now) waiting.old waiting.new line
+    ensures runs { PrintsOf (DoesBytes (DoesUnder mode.now) (seen admin.old) (seen admin.new) bytes.now) waiting.old waiting.new line
         (W.contents writer.old) (W.contents writer.new) result }
 {
     let Ok(found) = read_line(rt.alloc(), bytes) else {
@@ -396,7 +396,7 @@ fn do_line<W: Write, S: Keep + Drop, T: Tell>(
     bytes: &[u8],
     found: Line,
     admin: &mut Admin<S>,
-    mode: Mode,
+    mode: &Mode,
     waiting: &mut Waiting,
     writer: &mut W,
     teller: &T,
@@ -404,7 +404,7 @@ fn do_line<W: Write, S: Keep + Drop, T: Tell>(
     requires room { admin.old.operations + 1 < 2 ^ 64 }
     requires short { length bytes.now ≤ 16384 }
     ensures count { admin.new.operations ≤ admin.old.operations + 1 }
-    ensures prints { PrintsOf (AnswersLine (DoesUnder mode) (seen admin.old) (seen admin.new) found) waiting.old waiting.new line
+    ensures prints { PrintsOf (AnswersLine (DoesUnder mode.now) (seen admin.old) (seen admin.new) found) waiting.old waiting.new line
         (W.contents writer.old) (W.contents writer.new) result }
 {
     match found {

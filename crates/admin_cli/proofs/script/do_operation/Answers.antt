@@ -9,7 +9,7 @@ pub returns-then-is_ok-clause-prints : goal.returns-then-is_ok-clause-prints
 returns-then-is_ok-clause-prints g c =
     let shown = shown_line c.operate-came.result in
     let put : PutsLine c.args.waiting.now c.put_step.new.self c.args.line (shown_line c.operate-came.result) = search rules in
-    inl (Some shown, (shown, then_forgets c.args.mode.history _ (seen c.operate-came.new.self) (seen c.forget.new.self) (as_plain c.args.mode.asks _ _ c.requires.plain (c.operate-came.ensures.count, c.operate-came.ensures.jobs, c.operate-came.ensures.sent, c.operate-came.ensures.operated)) c.forget.ensures.forgot, refl), inl (put, refl))
+    inl (Some shown, (shown, then_forgets c.args.mode.now.history _ (seen c.operate-came.new.self) (seen c.forget.new.self) (as_plain c.args.mode.now.asks _ _ c.requires.plain (c.operate-came.ensures.count, c.operate-came.ensures.jobs, c.operate-came.ensures.sent, c.operate-came.ensures.operated)) c.forget.ensures.forgot, refl), inl (put, refl))
 
 pub returns-clause-prints : goal.returns-clause-prints
 returns-clause-prints g c =
@@ -17,7 +17,7 @@ returns-clause-prints g c =
     let same : (c.put_step.new.self.bytes.items ≡ c.args.waiting.now.bytes.items) × (c.put_step.new.self.marks.items ≡ c.args.waiting.now.marks.items) = search rules in
     inl (
       Some shown,
-      (shown, then_forgets c.args.mode.history _ (seen c.operate-came.new.self) (seen c.forget.new.self) (as_plain c.args.mode.asks _ _ c.requires.plain (c.operate-came.ensures.count, c.operate-came.ensures.jobs, c.operate-came.ensures.sent, c.operate-came.ensures.operated)) c.forget.ensures.forgot, refl),
+      (shown, then_forgets c.args.mode.now.history _ (seen c.operate-came.new.self) (seen c.forget.new.self) (as_plain c.args.mode.now.asks _ _ c.requires.plain (c.operate-came.ensures.count, c.operate-came.ensures.jobs, c.operate-came.ensures.sent, c.operate-came.ensures.operated)) c.forget.ensures.forgot, refl),
       subst (λ s. PrintsOutput c.args.waiting.now c.print_apart-printed.new.waiting c.args.line s (g.W.Write.contents c.args.writer.now) (g.W.Write.contents c.print_apart-printed.new.writer) c.print_apart-printed.result)
           c.shown_line-shown.ensures (apart_behind c.args.waiting.now c.put_step.new.self c.print_apart-printed.new.waiting c.args.line _ _ _ c.print_apart-printed.result same c.print_apart-printed.ensures),
     )
