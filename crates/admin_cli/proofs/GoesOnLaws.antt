@@ -1,5 +1,5 @@
 -- A load's book goes on.
-use Rattle.admin_cli.proofs.Common.{IsSoundKept, KeptState, List, Option, Some, StandsBehind, [], ap, append-nil, append_assoc, drop, subst, sym, take, take-append-drop, ℕ, ◌++◌, ◌∙◌, ◌≡◌}
+use Rattle.admin_cli.proofs.Common.{IsSoundKept, KeptState, List, Opening, Option, Some, StandsBehind, [], ap, append-nil, append_assoc, drop, subst, sym, take, take-append-drop, ℕ, ◌++◌, ◌∙◌, ◌≡◌}
 use Rattle.std.specs.FinMap as map
 use Rattle.std.specs.Prelude.{IfSome}
 use Rattle.mds_types.specs.Tree.{Tree}
@@ -29,7 +29,7 @@ goes_on_run b c ran = λ opening past given. record {
 }
 
 -- where the first entries were forgotten
-pub goes_on_forgot : (a b : KeptState) (count : ℕ) → b.history ≡ drop count a.history → ((opening : Tree) (past : List Entry) → StandsBehind opening past a → StandsBehind opening (past ++ take count a.history) b) → BookGrows a b
+pub goes_on_forgot : (a b : KeptState) (count : ℕ) → b.history ≡ drop count a.history → ((opening : Opening) (past : List Entry) → StandsBehind opening past a → StandsBehind opening (past ++ take count a.history) b) → BookGrows a b
 goes_on_forgot a b count left on = λ opening past given.
     let went = past ++ take count a.history in
     let same : went ++ b.history ≡ past ++ a.history =

@@ -1,5 +1,5 @@
 -- What a script prints is what one thread tells.
-use Rattle.admin_cli.proofs.Common.{Admin, Answer, Appends, Command, EndsScript, Err, Event, Executes, FaultKind, Fragment, IfOk, IfSome, Ino, IsFormatted, Keeps, List, MakesStep, None, Ok, Option, OutputLine, Rank, Refusal, Result, RunsInput, RunsLines, RunsOrNot, Some, StopsBefore, [], ap, append-nil, append_assoc, arith, inl, inr, length, refl, shown_line, subst, sym, text_of, ℕ, ◌++◌, ◌+◌, ◌∙◌, ◌∷◌, ◌≡◌}
+use Rattle.admin_cli.proofs.Common.{Admin, Answer, Appends, Command, EndsScript, Err, Event, Executes, FaultKind, Fragment, IfOk, IfSome, Ino, IsFormatted, Keeps, List, MakesStep, None, Ok, Opening, Option, OutputLine, Rank, Refusal, Result, RunsInput, RunsLines, RunsOrNot, Some, StopsBefore, [], ap, append-nil, append_assoc, arith, inl, inr, length, refl, shown_line, subst, sym, text_of, ℕ, ◌++◌, ◌+◌, ◌∙◌, ◌∷◌, ◌≡◌}
 use Rattle.std.specs.Prelude.{◌⊎◌, filter, flat_map, map, replicate, suc, take, zero}
 use Rattle.std.specs.List.{AllByRecursion}
 use Rattle.std.specs.FinMap as finite
@@ -19,7 +19,6 @@ use Rattle.cluster_core.specs.declared.events.Answer.TheVariants as answer
 use Rattle.cluster_core.specs.declared.events.Event.TheVariants as event
 use Rattle.cluster_core.specs.declared.receipts.Receipt.{Receipt}
 use Rattle.cluster_core.proofs.ListLaws.{all_append, all_back, all_front, all_weaker, each_left, each_right}
-use Rattle.mds_types.specs.Tree.{Tree}
 use Rattle.cluster_core.proofs.NoReplyLaws.{TellsNone}
 use Rattle.cluster_core.proofs.OneThreadLaws.{as_one}
 use Rattle.admin_cli.proofs.ServedKept.{Served, in_places, in_whole, served_forgot, served_none, served_on, served_one, served_same, step_tells_none}
@@ -248,7 +247,7 @@ module _ (sent : List Request) where
       let then = commits_after h.middle new h.number printed (first.sound, none.waits) h.rest in
       record { sound = then.sound; served = served_on sent old.book h.middle.book new.book [] (receipt_in printed) none then.served }
 
-  flushed_none : (old new : KeptState) → ((opening : Tree) (past : List Entry) → StandsBehind opening past old → StandsBehind opening past new) → AreAmong sent old.core.state.inboxes → KeepsBook old new → Served old new sent []
+  flushed_none : (old new : KeptState) → ((opening : Opening) (past : List Entry) → StandsBehind opening past old → StandsBehind opening past new) → AreAmong sent old.core.state.inboxes → KeepsBook old new → Served old new sent []
   flushed_none old new on among kept =
       served_none sent old new on (ap (λ (s : State). s.tree.limit) kept.core.left) (ap (λ (s : State). s.inboxes) kept.core.left) kept.history among
 
@@ -612,7 +611,7 @@ broken_of Does old done left (Err stopped) front h = broken_at Does old left sto
 
 -- a script that ran over a book
 prints_run : (Does : Doing) → AreAsOne Does → (known before after : Option (List ℕ)) (result : Result (Unit {0}) ScriptFault) (admin : Admin) → IsSoundKept admin.book → admin.operations ≡ 0 → RunsInput Does admin known before after result
-    → (opening : Tree) (past : List Entry) → StandsBehind opening past admin.book
+    → (opening : Opening) (past : List Entry) → StandsBehind opening past admin.book
     → PrintsOneThread admin.book.core.state.tree.limit opening (past ++ admin.book.history) (waiting_in admin.book.core.state.inboxes) known before after result
 prints_run Does one_of known before after result admin sound none input opening past given =
     let script = input.script in
@@ -656,7 +655,7 @@ kept_appends None after h = tt
 kept_appends (Some xs) None h = absurd h
 kept_appends (Some xs) (Some ys) h = h ∙ sym (append-nil xs)
 
-prints_none : (limit : ℕ) (opening : Tree) (past : List Entry) (waited : List Request) (known before after : Option (List ℕ)) (result : Result (Unit {0}) ScriptFault) → IsLegal limit opening past → Keeps before after
+prints_none : (limit : ℕ) (opening : Opening) (past : List Entry) (waited : List Request) (known before after : Option (List ℕ)) (result : Result (Unit {0}) ScriptFault) → IsLegal limit opening past → Keeps before after
     → PrintsOneThread limit opening past waited known before after result
 prints_none limit opening past waited known before after result legal same = record {
   lines = lines_in known;
@@ -691,7 +690,7 @@ prints_nothing limit known before result = prints_none limit finite.empty [] [] 
 
 -- what a script prints over a book is what one thread tells
 pub prints_over : (Does : Doing) → AreAsOne Does → (book : KeptState) → IsSoundKept book → (known before after : Option (List ℕ)) (result : Result (Unit {0}) ScriptFault)
-    → RunsOrNot Does (record { book = book; operations = 0; jobs = finite.empty; sent = none_sent }) known before after result → (opening : Tree) (past : List Entry) → StandsBehind opening past book
+    → RunsOrNot Does (record { book = book; operations = 0; jobs = finite.empty; sent = none_sent }) known before after result → (opening : Opening) (past : List Entry) → StandsBehind opening past book
     → PrintsOneThread book.core.state.tree.limit opening (past ++ book.history) (waiting_in book.core.state.inboxes) known before after result
 prints_over Does one_of book sound known before after result (inl runs) opening past given =
     prints_run Does one_of known before after result (record { book = book; operations = 0; jobs = finite.empty; sent = none_sent }) sound refl runs opening past given
@@ -826,7 +825,7 @@ printed_all sent old new text left d before after (Err fault) all = tt
 -- a script over a book leaves what one thread leaves
 pub leaves_over : (Does : Doing) → AreAsOne Does → (old : KeptState) → IsSoundKept old → (new : Admin) (known before after : Option (List ℕ)) (result : Result (Unit {0}) ScriptFault)
     → LeavesAdmin Does (record { book = old; operations = 0; jobs = finite.empty; sent = none_sent }) new known before after result
-    → (opening : Tree) (past : List Entry) → StandsBehind opening past old → LeavesOneThread opening past old new.book known before after result
+    → (opening : Opening) (past : List Entry) → StandsBehind opening past old → LeavesOneThread opening past old new.book known before after result
 leaves_over Does one_of old sound new known before after result h opening past given =
     let admin : Admin = record { book = old; operations = 0; jobs = finite.empty; sent = none_sent } in
     let waiting = waiting_in old.core.state.inboxes in
@@ -856,7 +855,7 @@ none_wait (suc ranks) = none_wait ranks
 
 -- so it is over a new book
 pub prints_new : (ranks cache limit : ℕ) (known before after : Option (List ℕ)) (result : Result (Unit {0}) ScriptFault) (book : KeptState) → IsFormatted ranks cache limit book
-    → ((opening : Tree) (past : List Entry) → StandsBehind opening past book → PrintsOneThread book.core.state.tree.limit opening (past ++ book.history) (waiting_in book.core.state.inboxes) known before after result)
+    → ((opening : Opening) (past : List Entry) → StandsBehind opening past book → PrintsOneThread book.core.state.tree.limit opening (past ++ book.history) (waiting_in book.core.state.inboxes) known before after result)
     → PrintsOneThread limit finite.empty [] [] known before after result
 prints_new ranks cache limit known before after result book formatted h =
     let limited : book.core.state.tree.limit ≡ limit = ap (λ (s : State). s.tree.limit) formatted.state in

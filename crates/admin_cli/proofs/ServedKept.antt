@@ -1,8 +1,7 @@
 -- What lines leave of a book, whichever opening tree and past it goes on from: what one thread leaves of the whole book.
-use Rattle.admin_cli.proofs.Common.{Answer, Event, IsSoundKept, KeptState, List, Refusal, Result, StandsBehind, [], ap, append_assoc, length, refl, subst, sym, take, take-append-drop, places_of, whole_of, ℕ, ◌++◌, ◌∙◌, ◌≡◌}
+use Rattle.admin_cli.proofs.Common.{Answer, Event, IsSoundKept, KeptState, List, Opening, Refusal, Result, StandsBehind, [], ap, append_assoc, length, refl, subst, sym, take, take-append-drop, places_of, whole_of, ℕ, ◌++◌, ◌∙◌, ◌≡◌}
 use Rattle.std.specs.List.{AllByRecursion}
 use Rattle.std.specs.Prelude.{Contains}
-use Rattle.mds_types.specs.Tree.{Tree}
 use Rattle.mds_types.specs.declared.entries.Entry.{Entry}
 use Rattle.mds_types.specs.declared.requests.Request.{Request}
 use Rattle.inboxes.specs.Inboxes.{Inboxes}
@@ -17,14 +16,14 @@ use Rattle.cluster_core.specs.Forgetting.{Forgets}
 use Rattle.admin_cli.specs.StepLines.{IsStep}
 
 -- behind this opening tree and past: what is forgotten now, and what the whole books are to each other
-pub record ServedBehind (opening : Tree) (past : List Entry) (start end : KeptState) (sent : List Request) (told : List Receipt) : Type 0 where
+pub record ServedBehind (opening : Opening) (past : List Entry) (start end : KeptState) (sent : List Request) (told : List Receipt) : Type 0 where
   pub forgotten : List Entry
   pub behind : StandsBehind opening forgotten end
   pub served : whole.Served (whole_of opening past start) (whole_of opening forgotten end) sent told
 
 pub record Served (start end : KeptState) (sent : List Request) (told : List Receipt) : Type 0 where
   pub waits : AreAmong sent end.core.state.inboxes
-  pub from : (opening : Tree) (past : List Entry) → StandsBehind opening past start → ServedBehind opening past start end sent told
+  pub from : (opening : Opening) (past : List Entry) → StandsBehind opening past start → ServedBehind opening past start end sent told
 
 module _ (sent : List Request) where
   pub served_same : (start end : KeptState) → end ≡ start → AreAmong sent start.core.state.inboxes → Served start end sent []
@@ -38,7 +37,7 @@ module _ (sent : List Request) where
   }
 
   -- what says nothing to clients
-  pub served_none : (start end : KeptState) → ((opening : Tree) (past : List Entry) → StandsBehind opening past start → StandsBehind opening past end) → end.core.state.tree.limit ≡ start.core.state.tree.limit → end.core.state.inboxes ≡ start.core.state.inboxes → end.history ≡ start.history
+  pub served_none : (start end : KeptState) → ((opening : Opening) (past : List Entry) → StandsBehind opening past start → StandsBehind opening past end) → end.core.state.tree.limit ≡ start.core.state.tree.limit → end.core.state.inboxes ≡ start.core.state.inboxes → end.history ≡ start.history
       → AreAmong sent start.core.state.inboxes → Served start end sent []
   served_none start end on limit inboxes same among = record {
     waits = subst (λ (i : Inboxes). AreAmong sent i) (sym inboxes) among;
@@ -50,7 +49,7 @@ module _ (sent : List Request) where
   }
 
   step_behind : (start end : KeptState) (result : Result Answer Refusal) (event : Event) → IsStep start end result event → AreAmong sent start.core.state.inboxes → AllByRecursion (Contains sent) (arrival event)
-      → (opening : Tree) (past : List Entry) → StandsBehind opening past start → ServedBehind opening past start end sent (receipt_of result)
+      → (opening : Opening) (past : List Entry) → StandsBehind opening past start → ServedBehind opening past start end sent (receipt_of result)
   step_behind start end result event step among has opening past given = record {
     forgotten = past;
     behind = step.goes_on opening past given;
@@ -104,13 +103,13 @@ step_tells_none old new result event known step =
     tells_none old.core new.core (known.1 ++ old.history) (known.1 ++ new.history) result event (step.stepped known.0 known.1 known.2).stepped.does
 
 -- so many entries there were, and so many there are, behind what is forgotten
-pub in_places : (opening : Tree) (past forgotten : List Entry) (start end : KeptState) (told : List Receipt) → StandsBehind opening past start → StandsBehind opening forgotten end → InOrder (length (past ++ start.history)) told (length (forgotten ++ end.history))
+pub in_places : (opening : Opening) (past forgotten : List Entry) (start end : KeptState) (told : List Receipt) → StandsBehind opening past start → StandsBehind opening forgotten end → InOrder (length (past ++ start.history)) told (length (forgotten ++ end.history))
     → InOrder (places_of start) told (places_of end)
 in_places opening past forgotten start end told given behind order =
     subst (λ (n : ℕ). InOrder n told (places_of end)) (places_behind opening past start given)
     (subst (λ (n : ℕ). InOrder (length (past ++ start.history)) told n) (places_behind opening forgotten end behind) order)
 
-pub in_whole : (opening : Tree) (past forgotten : List Entry) (start end : KeptState) (told : List Receipt) → StandsBehind opening past start → StandsBehind opening forgotten end → InOrder (places_of start) told (places_of end)
+pub in_whole : (opening : Opening) (past forgotten : List Entry) (start end : KeptState) (told : List Receipt) → StandsBehind opening past start → StandsBehind opening forgotten end → InOrder (places_of start) told (places_of end)
     → InOrder (length (past ++ start.history)) told (length (forgotten ++ end.history))
 in_whole opening past forgotten start end told given behind order =
     subst (λ (n : ℕ). InOrder n told (length (forgotten ++ end.history))) (sym (places_behind opening past start given))

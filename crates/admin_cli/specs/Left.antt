@@ -8,7 +8,7 @@ use Rattle.cluster_core.specs.SentBytes.{none_sent}
 use Rattle.cluster_core.specs.Sound.{StandsBehind}
 use Rattle.cluster_core.specs.State.{KeptState, places_of}
 use Rattle.mds_types.specs.declared.entries.Entry.{Entry}
-use Rattle.mds_types.specs.Tree.{Tree}
+use Rattle.cluster_core.specs.Opening.{Opening}
 use Rattle.std.specs.FinMap as finite
 use Rattle.script_text.specs.Input.{lines_of}
 use Rattle.admin_cli.specs.Admin.{Admin}
@@ -51,7 +51,7 @@ pub record PrintsReplies (told : List Receipt) (before after : Option (List ℕ)
 -- a script over a book that went on from this opening tree and past left a book that goes on from this tree, and whose
 -- whole history, with what is forgotten now, is that of one thread, which served the requests that waited and those that
 -- the script's lines make; a script that ended well printed each of its replies
-pub record LeavesOneThread (opening : Tree) (past : List Entry) (old new : KeptState) (known before after : Option (List ℕ))
+pub record LeavesOneThread (opening : Opening) (past : List Entry) (old new : KeptState) (known before after : Option (List ℕ))
     (result : Result (Unit {0}) ScriptFault) : Type 0 where
   pub lines : List (List ℕ)
   pub read : IfSome known (λ bytes. lines ≡ lines_of bytes)
@@ -68,11 +68,11 @@ pub record LeavesOneThread (opening : Tree) (past : List Entry) (old new : KeptS
 
 -- from whichever opening tree and past a book went on, it goes on from this tree, and its whole history, with what is
 -- forgotten now, begins with the whole one from before
-pub record GrowsBehind (opening : Tree) (past : List Entry) (old new : KeptState) : Type 0 where
+pub record GrowsBehind (opening : Opening) (past : List Entry) (old new : KeptState) : Type 0 where
   pub forgotten : List Entry
   pub behind : StandsBehind opening forgotten new
   pub grows : GoesOnFrom (forgotten ++ new.history) (past ++ old.history)
 
 abbrev pub BookGrows : (old new : KeptState) → Type 0
 BookGrows old new =
-    (opening : Tree) (past : List Entry) → StandsBehind opening past old → GrowsBehind opening past old new
+    (opening : Opening) (past : List Entry) → StandsBehind opening past old → GrowsBehind opening past old new

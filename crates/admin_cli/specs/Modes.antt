@@ -8,7 +8,7 @@ use Rattle.mds_types.specs.declared.operations.Op.{Op}
 use Rattle.mds_types.specs.declared.refusals.Refusal.{Refusal}
 use Rattle.mds_types.specs.declared.refusals.Refusal.TheVariants.{InboxFull}
 use Rattle.mds_types.specs.declared.requests.Request.{Request as Asked}
-use Rattle.mds_types.specs.Tree.{Tree}
+use Rattle.cluster_core.specs.Opening.{Opening}
 use Rattle.inboxes.specs.Inboxes.{waiting_in_all}
 use Rattle.cluster_core.specs.OneThread.{InOrder, IsOneThread}
 use Rattle.cluster_core.specs.Sound.{StandsBehind, IsSoundKept}
@@ -40,14 +40,14 @@ plain = record { asks = false; keeps = false; history = None }
 pub record IsAskedOnce (old new : KeptState) (rank : Rank) (request : Asked) (result : Result Receipt Refusal)
     : Type 0 where
   pub none : NoneWaits old.core.state.inboxes
-  pub asked : (opening : Tree) (past : List Entry) → StandsBehind opening past old
+  pub asked : (opening : Opening) (past : List Entry) → StandsBehind opening past old
       → AsksOnce old.core new.core (past ++ old.history) (past ++ new.history) rank request result
-  pub one : (opening : Tree) (past : List Entry) → StandsBehind opening past old
+  pub one : (opening : Opening) (past : List Entry) → StandsBehind opening past old
       → IsOneThread old.core.state.tree.limit opening (past ++ old.history) (past ++ new.history) (request ∷ [])
       (receipt_in result)
   pub in_order : InOrder (places_of old) (receipt_in result) (places_of new)
   pub idle : NoneWaits new.core.state.inboxes
-  pub goes_on : (opening : Tree) (past : List Entry) → StandsBehind opening past old → StandsBehind opening past new
+  pub goes_on : (opening : Opening) (past : List Entry) → StandsBehind opening past old → StandsBehind opening past new
   pub same_opening : new.opening ≡ old.opening
   pub same_limit : new.core.state.tree.limit ≡ old.core.state.tree.limit
   pub sound : IsSoundKept new

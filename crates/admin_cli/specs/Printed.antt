@@ -2,7 +2,7 @@
 use Rattle.std.specs.Prelude.{◌≡◌, ◌⊎◌, ◌+◌, ◌++◌, ◌∷◌, [], ℕ, nat_eq, Bool, List, filter, flat_map, length, map, codes, Option, IfSome, Result, Err}
 use Rattle.std.specs.List.{starts_with}
 use Rattle.std.specs.Io.KnownBytes.{Appends}
-use Rattle.mds_types.specs.Tree.{Tree}
+use Rattle.cluster_core.specs.Opening.{Opening}
 use Rattle.mds_types.specs.declared.entries.Entry.{Entry}
 use Rattle.mds_types.specs.declared.requests.Request.{Request}
 use Rattle.cluster_core.specs.declared.receipts.Receipt.{Receipt}
@@ -50,7 +50,7 @@ ended_line text = text ++ codes "\n"
 -- requests waited: whole lines, with a beginning of the next one at a write fault. Of those lines the ones that begin with
 -- `reply ` are, in their order, the replies of one thread that serves one plain tree those requests and the ones that the
 -- script's lines make
-pub record PrintsOneThread (limit : ℕ) (opening : Tree) (past : List Entry) (waited : List Request)
+pub record PrintsOneThread (limit : ℕ) (opening : Opening) (past : List Entry) (waited : List Request)
     (known before after : Option (List ℕ)) (result : Result (Unit {0}) ScriptFault) : Type 0 where
   pub lines : List (List ℕ)
   pub read : IfSome known (λ bytes. lines ≡ lines_of bytes)

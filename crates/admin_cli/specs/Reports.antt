@@ -6,6 +6,7 @@ use Rattle.std.specs.Fmt.{decimal}
 use Rattle.std.specs.FinMap as map
 use Rattle.std.specs.Io.KnownBytes.{Appends, Keeps}
 use Rattle.mds_types.specs.declared.entries.Entry.{Entry}
+use Rattle.cluster_core.specs.Opening.{fresh}
 use Rattle.cluster_core.specs.Sound.{StandsBehind}
 use Rattle.cluster_core.specs.State.{KeptState, places_of}
 use Rattle.script_output.specs.Writing.{AppendsBeginning}
@@ -34,7 +35,7 @@ pub record Reports (served : ℕ) (agrees : Bool) (text : List ℕ) : Type 0 whe
 
 -- a book opened with the empty tree, whatever of its history is forgotten
 abbrev pub OpensEmpty : KeptState → Type 0
-OpensEmpty book = (past : List Entry) × StandsBehind map.empty past book
+OpensEmpty book = (past : List Entry) × StandsBehind (fresh map.empty) past book
 
 -- so it is of a sound book that opened with the empty tree
 pub record IsText (agrees : Bool) (text : List ℕ) : Type 0 where

@@ -2,6 +2,7 @@
 use Rattle.std.specs.Prelude.{◌≡◌, ◌⊎◌, ℕ, ◌+◌, ◌<◌, ◌≤◌, List, [], ◌∷◌, ◌++◌, length, codes, Option, Some, IfSome, Result, Ok, Err}
 use Rattle.std.specs.Io.KnownBytes.{Appends, Keeps}
 use Rattle.std.specs.FinMap as map
+use Rattle.cluster_core.specs.Opening.{fresh}
 use Rattle.cluster_core.specs.Sound.{StandsBehind}
 use Rattle.cluster_core.specs.State.{KeptState, new_caches, new_state}
 use Rattle.script_text.specs.declared.commands.Command.{Command}
@@ -134,7 +135,7 @@ pub record IsFormatted (ranks cache limit : ℕ) (book : KeptState) : Type 0 whe
   pub history : book.history ≡ []
   pub state : book.core.state ≡ new_state ranks limit
   pub places : book.core.caches ≡ new_caches ranks cache
-  pub goes_on : StandsBehind map.empty [] book
+  pub goes_on : StandsBehind (fresh map.empty) [] book
   pub faults : book.core.faults ≡ 0
 
 -- a whole script, from a new book, with no line read yet

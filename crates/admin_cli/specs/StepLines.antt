@@ -1,7 +1,7 @@
 -- One step of a book, and the line that shows what it came to.
 use Rattle.std.specs.Prelude.{◌≡◌, List, length, Result, Ok, Err}
 use Rattle.mds_types.specs.declared.entries.Entry.{Entry}
-use Rattle.mds_types.specs.Tree.{Tree}
+use Rattle.cluster_core.specs.Opening.{Opening}
 use Rattle.mds_types.specs.declared.refusals.Refusal.{Refusal}
 use Rattle.cluster_core.specs.declared.events.Answer.{Answer}
 use Rattle.cluster_core.specs.declared.events.Answer.TheVariants.{Deferred, Forwarded, Job, Nothing, Reply, Sent}
@@ -16,9 +16,9 @@ use Rattle.admin_cli.specs.Admin.{Admin}
 -- one event led from a book to the next with this result, by all that the contract of a book's step says, whichever
 -- opening tree and past the book goes on from; its store, which has all its objects in memory, tells no fault
 pub record IsStep (old new : KeptState) (result : Result Answer Refusal) (event : Event) : Type 0 where
-  pub stepped : (opening : Tree) (past : List Entry) → StandsBehind opening past old
+  pub stepped : (opening : Opening) (past : List Entry) → StandsBehind opening past old
       → StepsBook (whole_of opening past old) (whole_of opening past new) result event
-  pub goes_on : (opening : Tree) (past : List Entry) → StandsBehind opening past old → StandsBehind opening past new
+  pub goes_on : (opening : Opening) (past : List Entry) → StandsBehind opening past old → StandsBehind opening past new
   pub same_opening : new.opening ≡ old.opening
   pub sound : IsSoundKept new
   pub faults : new.core.faults ≡ 0

@@ -10,8 +10,7 @@ use Rattle.mds_types.specs.declared.refusals.Refusal.{Refusal}
 use Rattle.mds_types.specs.declared.refusals.Refusal.TheVariants.{NoMemory, StaleJob}
 use Rattle.mds_types.specs.Refusal.{refusal_number}
 use Rattle.mds_types.specs.Frag.{Fragment}
-use Rattle.mds_types.specs.History.{after}
-use Rattle.mds_types.specs.Tree.{Tree}
+use Rattle.cluster_core.specs.Opening.{Opening, after_from}
 use Rattle.objstore.specs.Objects.{Objects as Stored}
 use Rattle.cached_frag.specs.declared.jobs.Job.{Job as Begun}
 use Rattle.cached_frag.specs.Commit.{carried}
@@ -138,13 +137,13 @@ LacksForCommit old new rank dir f = LosesJob old new rank dir f ⊎ BeginsAlone 
 -- a flush led from a book to the next with this result, by all that its contract says; the store, which has all
 -- its objects in memory, tells no fault
 pub record IsFlush (old new : KeptState) (result : Result (Unit {0}) Refusal) : Type 0 where
-  pub cold : OnOk result ((opening : Tree) (past : List Entry) → StandsBehind opening past old
-      → IsColdTree new.core.state.tree.objects (after old.core.state.tree.limit opening (past ++ old.history)))
+  pub cold : OnOk result ((opening : Opening) (past : List Entry) → StandsBehind opening past old
+      → IsColdTree new.core.state.tree.objects (after_from old.core.state.tree.limit opening (past ++ old.history)))
   pub exact : OnOk result (AreExact new.core.state.tree)
   pub clean : OnOk result (new.core.state.tree.unsaved ≡ map.empty)
   pub purged : OnOk result (new.core.state.tree.purge ≡ map.empty)
   pub outcome : Flushes old new result
-  pub goes_on : (opening : Tree) (past : List Entry) → StandsBehind opening past old → StandsBehind opening past new
+  pub goes_on : (opening : Opening) (past : List Entry) → StandsBehind opening past old → StandsBehind opening past new
   pub sound : IsSoundKept new
   pub faults : new.core.faults ≡ 0
 

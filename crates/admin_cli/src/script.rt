@@ -1,7 +1,7 @@
 //! Running a script.
 ghost use Rattle.std.specs.Prelude.{◌≡◌, ◌+◌, ◌++◌, ◌<◌, ◌≤◌, ◌^◌, [], List, false, length, true, IfSome};
 ghost use Rattle.std.specs.FinMap as map;
-ghost use Rattle.mds_types.specs.Tree.{Tree};
+ghost use Rattle.cluster_core.specs.Opening.{Opening, fresh};
 ghost use Rattle.mds_types.specs.declared.entries.Entry.{Entry as Applied};
 ghost use Rattle.cluster_core.specs.SentBytes.{none_sent};
 ghost use Rattle.cluster_core.specs.Sound.{StandsBehind};
@@ -54,7 +54,7 @@ pub fn run_script<H: AllocGlobal + Threads + Sync, R: Read + Drop, W: Write>(
     requires few { ranks ≤ 16 }
     requires least { 512 ≤ cache }
     requires most { cache ≤ 65536 }
-    ensures one_thread { PrintsOneThread limit map.empty [] [] (R.remaining reader) (W.contents writer.old)
+    ensures one_thread { PrintsOneThread limit (fresh map.empty) [] [] (R.remaining reader) (W.contents writer.old)
         (W.contents writer.new) result }
     ensures ran { RunsNew Executes ranks cache limit (R.remaining reader) (W.contents writer.old) (W.contents writer.new)
         result }
@@ -77,7 +77,7 @@ pub fn run_new<H: AllocGlobal + Threads + Sync, R: Read + Drop, W: Write, T: Tel
     requires few { ranks ≤ 16 }
     requires least { 512 ≤ cache }
     requires most { cache ≤ 65536 }
-    ensures one_thread { PrintsOneThread limit map.empty [] [] (R.remaining reader) (W.contents writer.old)
+    ensures one_thread { PrintsOneThread limit (fresh map.empty) [] [] (R.remaining reader) (W.contents writer.old)
         (W.contents writer.new) result }
     ensures ran { RunsNew (DoesUnder mode) ranks cache limit (R.remaining reader) (W.contents writer.old)
         (W.contents writer.new) result }
@@ -122,11 +122,11 @@ where
     W: Write,
     S: Keep + Drop,
     T: Tell,
-    ensures one_thread { (opening : Tree) (past : List Applied) → StandsBehind opening past book
+    ensures one_thread { (opening : Opening) (past : List Applied) → StandsBehind opening past book
         → PrintsOneThread book.core.state.tree.limit opening (past ++ book.history)
         (waiting_in book.core.state.inboxes) (R.remaining reader) (W.contents writer.old) (W.contents writer.new)
         result.ended }
-    ensures left { (opening : Tree) (past : List Applied) → StandsBehind opening past book
+    ensures left { (opening : Opening) (past : List Applied) → StandsBehind opening past book
         → LeavesOneThread opening past book result.book (R.remaining reader) (W.contents writer.old)
         (W.contents writer.new) result.ended }
     ensures ran { RunsOrNot (DoesUnder mode) (record { book = book; operations = 0; jobs = map.empty; sent = none_sent })

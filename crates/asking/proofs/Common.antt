@@ -12,6 +12,7 @@ pub use Rattle.cluster_core.specs.Grants.{Grants, GrantsRequest, RefusesGrant}
 pub use Rattle.cluster_core.specs.Master.{IsAuthority, IsMaster, MayTouchAll, MustWait, would_change, would_change_in}
 pub use Rattle.cluster_core.specs.Runs.{Runs, StepsBook}
 pub use Rattle.cluster_core.specs.OneThread.{StandsInHistory}
+pub use Rattle.cluster_core.specs.Opening.{IsLawfulFrom, IsLegalFrom, IsNextFrom, IsUsedFrom, Opening, after_from, fresh}
 pub use Rattle.cluster_core.specs.Serve.{IsDeferred}
 pub use Rattle.cluster_core.specs.State.{held_roots}
 pub use Rattle.cluster_core.specs.Steps.{LacksPlaces}

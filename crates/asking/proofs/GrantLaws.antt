@@ -1,5 +1,5 @@
 -- What a grant gives, and those of all ranks one after the other.
-use Rattle.asking.proofs.Common.{None, KeepsButGrants, Option, Answer, Bool, Contains, Core, Entry, Err, Frozen, Grant, Grants, GrantsEach, GrantsFirst, GrantsOf, GrantsRequest, GrantsSo, GrantsThem, GrantsWaiting, IsAuthority, IsFrozenAt, IsGranted, IsSound, KeepsUnclean, Leaf, List, MatchBool, NoInodes, NoMemory, NotAuthority, NothingToEvict, Ok, Op, Pin, Rank, ReadsOp, Refusal, RefusesGrant, Request, Result, Some, State, Steps, StoreFault, Tree, TreeMayRefuse, UsesStep, WhyNotGranted, ap, arith, false, first_waiting, grant_of, held_roots, inl, inr, is_for, is_pin, left_without, length, list_any, nat_lt, refl, subst, sym, true, with_grants, would_change, ℕ, ◌+◌, ◌<◌, ◌∙◌, ◌≡◌, ◌≢◌, ◌⊎◌}
+use Rattle.asking.proofs.Common.{None, KeepsButGrants, Opening, Option, Answer, Bool, Contains, Core, Entry, Err, Frozen, Grant, Grants, GrantsEach, GrantsFirst, GrantsOf, GrantsRequest, GrantsSo, GrantsThem, GrantsWaiting, IsAuthority, IsFrozenAt, IsGranted, IsSound, KeepsUnclean, Leaf, List, MatchBool, NoInodes, NoMemory, NotAuthority, NothingToEvict, Ok, Op, Pin, Rank, ReadsOp, Refusal, RefusesGrant, Request, Result, Some, State, Steps, StoreFault, TreeMayRefuse, UsesStep, WhyNotGranted, ap, arith, false, first_waiting, grant_of, held_roots, inl, inr, is_for, is_pin, left_without, length, list_any, nat_lt, refl, subst, sym, true, with_grants, would_change, ℕ, ◌+◌, ◌<◌, ◌∙◌, ◌≡◌, ◌≢◌, ◌⊎◌}
 use Rattle.std.proofs.lemmas.Bool.{cases_lt, lt-ltb}
 use Rattle.cluster_core.specs.Uses.{UsesWaiting}
 use Rattle.asking.proofs.LiveLaws.{change_ruled, is_one_of_16, is_rank}
@@ -68,7 +68,7 @@ module _ (old new : Core) (past now : List Entry) (rank : Rank) (client tid : �
   )
 
   -- nothing is its own
-  pub foreign : (opening : Tree) → IsSound opening past old → (reason : Refusal) → reason ≡ NotAuthority → Steps old new past now (Err reason) (Grant rank client tid) → UsesStep old new (Err reason) (Grant rank client tid) → GrantsOf old new rank client tid request.op (Ok tt)
+  pub foreign : (opening : Opening) → IsSound opening past old → (reason : Refusal) → reason ≡ NotAuthority → Steps old new past now (Err reason) (Grant rank client tid) → UsesStep old new (Err reason) (Grant rank client tid) → GrantsOf old new rank client tid request.op (Ok tt)
   foreign opening sound reason is steps uses = go (looked (Err reason) steps uses)
     where
       of : RefusesGrant old.state new.state past now (TreeMayRefuse old new) rank request.op reason → Used → GrantsOf old new rank client tid request.op (Ok tt)
@@ -153,7 +153,7 @@ one_more old mid new client tid n op so (own, stay) = record {
 }
 
 -- all
-pub all_granted : (opening : Tree) (past : List Entry) (old new : Core) (client tid n : ℕ) (op : Op) → IsSound opening past old → n ≡ 16 → GrantsSo old new client tid op (Below n) → GrantsThem old new client tid op
+pub all_granted : (opening : Opening) (past : List Entry) (old new : Core) (client tid n : ℕ) (op : Op) → IsSound opening past old → n ≡ 16 → GrantsSo old new client tid op (Below n) → GrantsThem old new client tid op
 all_granted opening past old new client tid n op sound all so = record {
   kept = so.kept;
   granted = λ leaf has.

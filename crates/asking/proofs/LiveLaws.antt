@@ -1,5 +1,5 @@
 -- Each leaf that an operation would change is live, so it has an authority, which is one of the ranks.
-use Rattle.asking.proofs.Common.{Bool, Contains, Core, Dentry, Entry, Fragment, HasLeaf, Inode, IsLive, IsSound, IsSoundTree, Leaf, List, Lists, Looks, Makes, Moves, None, Op, Option, Rank, Removes, Rules, Sets, Shape, Some, Tree, TreeState, Unlinks, [], and_parts, ap, arith, cond, destination_in, directory_in, done_in, entry_stands, false, first, first_or_later, fragment_of, in_directory, inl, inr, is_dir_kind, is_directory, is_errno, later, leaf_live, leaves, leaves_at, leaves_of, length, none_in, picked, refl, shape, shown_tree, some_authority, some_pick, step, step_in, subst, sym, touched_in, tree_of_row, true, unless_errno, would_change_in, ℕ, ◌&&◌, ◌<◌, ◌∙◌, ◌∷◌, ◌≡◌}
+use Rattle.asking.proofs.Common.{Bool, Contains, Core, Dentry, Entry, Fragment, HasLeaf, Inode, IsLive, IsSound, IsSoundTree, Leaf, List, Lists, Looks, Makes, Moves, None, Op, Opening, Option, Rank, Removes, Rules, Sets, Shape, Some, TreeState, Unlinks, [], and_parts, ap, arith, cond, destination_in, directory_in, done_in, entry_stands, false, first, first_or_later, fragment_of, in_directory, inl, inr, is_dir_kind, is_directory, is_errno, later, leaf_live, leaves, leaves_at, leaves_of, length, none_in, picked, refl, shape, shown_tree, some_authority, some_pick, step, step_in, subst, sym, touched_in, tree_of_row, true, unless_errno, would_change_in, ℕ, ◌&&◌, ◌<◌, ◌∙◌, ◌∷◌, ◌≡◌}
 use Rattle.std.specs.FinMap as map
 use Rattle.std.proofs.Common.{map as map_list}
 use Rattle.std.specs.Ordering.{eq_by_cmp}
@@ -81,7 +81,7 @@ module _ (s : TreeState) (sound : IsSoundTree s) where
       let dirs = and_parts _ _ (stand s.limit (shape op) 0 w.0) in
       touched_live (shape op) dirs.0 dirs.1 leaf w.1
 
-module _ (opening : Tree) (history : List Entry) (core : Core) (sound : IsSound opening history core) where
+module _ (opening : Opening) (history : List Entry) (core : Core) (sound : IsSound opening history core) where
   -- an authority is one of the ranks,
   pub is_rank : (leaf : Leaf) (rank : Rank) → Rules core.state.tree core.state.roots leaf rank → rank.0 < length core.state.inboxes
   is_rank leaf rank has = omega (arith, sound.exported.ranked has.root rank has.ranked, sound.ranks.inboxes, sound.ranks.caches)

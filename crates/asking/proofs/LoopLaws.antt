@@ -1,6 +1,5 @@
 -- What the loop of a drain goes by.
-use Rattle.mds_types.specs.Tree.{Tree}
-use Rattle.asking.proofs.Common.{Answer, Frozen, RoundEnds, BookState, Bool, Core, Deferred, Entry, Err, Forwarded, GrantsEach, GrantsThem, Inboxes, IsSound, IsSoundBook, List, MatchBool, NoInodes, None, NoneWaits, Ok, Op, Rank, Refusal, Request, Result, Serve, ServesRequest, Some, State, Steps, Trimmed, TreeMayRefuse, WhyNotGranted, [], ap, append-nil, arith, cond, false, first_waiting, get_or, get_or_past, inl, inr, length, refl, subst, sym, true, waiting_at, ℕ, ◌++◌, ◌+◌, ◌-◌, ◌<◌, ◌∙◌, ◌∷◌, ◌≡◌, ◌≢◌, ◌≤◌, ◌⊎◌}
+use Rattle.asking.proofs.Common.{Answer, Frozen, Opening, RoundEnds, BookState, Bool, Core, Deferred, Entry, Err, Forwarded, GrantsEach, GrantsThem, Inboxes, IsSound, IsSoundBook, List, MatchBool, NoInodes, None, NoneWaits, Ok, Op, Rank, Refusal, Request, Result, Serve, ServesRequest, Some, State, Steps, Trimmed, TreeMayRefuse, WhyNotGranted, [], ap, append-nil, arith, cond, false, first_waiting, get_or, get_or_past, inl, inr, length, refl, subst, sym, true, waiting_at, ℕ, ◌++◌, ◌+◌, ◌-◌, ◌<◌, ◌∙◌, ◌∷◌, ◌≡◌, ◌≢◌, ◌≤◌, ◌⊎◌}
 use Rattle.std.specs.FinMap as map
 use Rattle.std.specs.Prelude.{MatchResult, slice_get}
 use Rattle.std.proofs.lemmas.Bool.{cases_lt}
@@ -63,7 +62,7 @@ front_some [] request is = let clash : None ≡ Some request = is in absurd cc
 front_some (x ∷ xs) request is = let same : Some x ≡ Some request = is in let one : x ≡ request = cc in (xs, ap (λ (q : Request). q ∷ xs) one)
 
 -- none waits at any of 16 ranks
-pub none_at_16 : (opening : Tree) (history : List Entry) (core : Core) → IsSound opening history core → (n : ℕ) → 16 ≤ n → ((k : ℕ) → k < n → get_or core.state.inboxes k [] ≡ []) → NoneWaits core.state.inboxes
+pub none_at_16 : (opening : Opening) (history : List Entry) (core : Core) → IsSound opening history core → (n : ℕ) → 16 ≤ n → ((k : ℕ) → k < n → get_or core.state.inboxes k [] ≡ []) → NoneWaits core.state.inboxes
 none_at_16 opening history core sound n all none rank = elim (cases_lt rank.0 (length core.state.inboxes)) [
   | inl there ↦ none rank.0 (omega (arith, is_one_of_16 opening history core sound rank there, all))
   | inr past ↦ get_or_past core.state.inboxes rank.0 [] past

@@ -1,5 +1,5 @@
 -- An ask that is given up leaves nothing.
-use Rattle.asking.proofs.Common.{BookState, Core, Entry, Err, Inboxes, IsTakenOut, KeptState, List, NoneWaits, Pin, Rank, Refusal, RefusesAsk, Request, State, StillWaits, Tree, WhyItWaits, [], ap, get_or-set_other, inl, inr, subst, sym, waiting_at, whole_of, with_waiting, without_request, ℕ, ◌<◌, ◌++◌, ◌∙◌, ◌∷◌, ◌≡◌, ◌⊎◌}
+use Rattle.asking.proofs.Common.{BookState, Core, Entry, Err, Inboxes, IsTakenOut, KeptState, List, NoneWaits, Opening, Pin, Rank, Refusal, RefusesAsk, Request, State, StillWaits, WhyItWaits, [], ap, get_or-set_other, inl, inr, subst, sym, waiting_at, whole_of, with_waiting, without_request, ℕ, ◌<◌, ◌++◌, ◌∙◌, ◌∷◌, ◌≡◌, ◌⊎◌}
 use Rattle.std.proofs.lemmas.Bool.{cases_eq}
 use Rattle.cluster_core.specs.GivenUp.{GivesUpIn}
 use Rattle.asking.specs.Drain.{IsLowest}
@@ -90,7 +90,7 @@ none_waits_once old new rank request reason none (why, inl (same, still)) = subs
 none_waits_once old new rank request reason none (why, inr is) = subst (λ (s : State). NoneWaits s.inboxes) (sym is.left) none
 
 -- an ask that was refused, and what waits then given up
-pub once : (old : BookState) (opening : Tree) (past : List Entry) (mid new : KeptState) (rank : Rank) (request : Request) (reason : Refusal) → NoneWaits old.core.state.inboxes → RefusesAsk old.core mid.core old.history (past ++ mid.history) rank request reason → Leaves mid new
+pub once : (old : BookState) (opening : Opening) (past : List Entry) (mid new : KeptState) (rank : Rank) (request : Request) (reason : Refusal) → NoneWaits old.core.state.inboxes → RefusesAsk old.core mid.core old.history (past ++ mid.history) rank request reason → Leaves mid new
     → AsksOnce old.core new.core old.history (past ++ new.history) rank request (Err reason)
 once old opening past mid new rank request reason none h (inl (idle, same)) =
     subst (λ (b : KeptState). AsksOnce old.core b.core old.history (past ++ b.history) rank request (Err reason)) (sym same) (none_left old (whole_of opening past mid) rank request reason none h idle)

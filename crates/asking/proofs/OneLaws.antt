@@ -1,5 +1,5 @@
 -- What asking is to whoever sends requests: one plain tree, served by one thread.
-use Rattle.asking.proofs.Common.{Answer, BookState, Entry, Event, InOrder, IsSoundBook, KeptState, List, NoneWaits, Refusal, Request, Result, Runs, StandsBehind, Tree, [], ap, append-nil, inl, inr, arith, length, places_of, refl, subst, sym, ℕ, ◌++◌, ◌∙◌, ◌∷◌, ◌≡◌}
+use Rattle.asking.proofs.Common.{Answer, BookState, Entry, Event, InOrder, IsSoundBook, KeptState, List, NoneWaits, Opening, Refusal, Request, Result, Runs, StandsBehind, [], ap, append-nil, inl, inr, arith, length, places_of, refl, subst, sym, ℕ, ◌++◌, ◌∙◌, ◌∷◌, ◌≡◌}
 use Rattle.std.specs.Prelude.{suc}
 use Rattle.inboxes.specs.Inboxes.{Inboxes}
 use Rattle.mds_types.specs.History.{IsLegal}
@@ -42,14 +42,14 @@ refused_as_one old new request sound same = record {
 
 -- ---- places, which are counted from the first entry ever
 
-pub order_kept : (opening : Tree) (past : List Entry) (old new : KeptState) (told : List Receipt) → StandsBehind opening past old → StandsBehind opening past new
+pub order_kept : (opening : Opening) (past : List Entry) (old new : KeptState) (told : List Receipt) → StandsBehind opening past old → StandsBehind opening past new
     → InOrder (length (past ++ old.history)) told (length (past ++ new.history)) → InOrder (places_of old) told (places_of new)
 order_kept opening past old new told goes on order =
     subst (λ (n : ℕ). InOrder n told (places_of new)) (places_behind opening past old goes)
     (subst (λ (n : ℕ). InOrder (length (past ++ old.history)) told n) (places_behind opening past new on) order)
 
 -- as many as there were, where no entry was added
-pub places_still : (opening : Tree) (past : List Entry) (old new : KeptState) → StandsBehind opening past old → StandsBehind opening past new → past ++ new.history ≡ past ++ old.history → places_of new ≡ places_of old
+pub places_still : (opening : Opening) (past : List Entry) (old new : KeptState) → StandsBehind opening past old → StandsBehind opening past new → past ++ new.history ≡ past ++ old.history → places_of new ≡ places_of old
 places_still opening past old new goes on same = sym (places_behind opening past new on) ∙ (ap (λ (l : List Entry). length l) same ∙ places_behind opening past old goes)
 
 -- ---- how many entries a directory may have

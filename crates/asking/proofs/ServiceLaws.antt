@@ -1,5 +1,5 @@
 -- Where nothing waits, nothing waits after a step that brings no request.
-use Rattle.asking.proofs.Common.{Entry, Inboxes, KeptState, List, Receipt, Refusal, Request, Result, State, Tree, StandsInHistory, [], ap, append-nil, arith, inl, inr, length, receipt_in, refl, subst, sym, ℕ, ◌++◌, ◌<◌, ◌∙◌, ◌∷◌, ◌≡◌}
+use Rattle.asking.proofs.Common.{Entry, Inboxes, KeptState, List, Opening, Receipt, Refusal, Request, Result, State, StandsInHistory, [], ap, append-nil, arith, inl, inr, length, receipt_in, refl, subst, sym, ℕ, ◌++◌, ◌<◌, ◌∙◌, ◌∷◌, ◌≡◌}
 use Rattle.std.specs.Prelude.{IfOk, take}
 use Rattle.std.specs.List.{AllByRecursion, Contains}
 use Rattle.std.proofs.lemmas.List.{append_assoc, take-append-drop}
@@ -34,7 +34,7 @@ none_sent [] all = refl
 none_sent (e ∷ es) (has, all) = let few : has.0 < length {A = Request} [] = has.1 in absurd (omega (arith, few))
 
 -- and nothing is applied
-pub nothing_applied : (limit : ℕ) (opening : Tree) (past now : List Entry) (old : Inboxes) (came : List Request) (told : List Receipt) → came ≡ [] → waiting_in_all old ≡ 0 → IsOneThread limit opening past now (waiting_in old ++ came) told → now ≡ past
+pub nothing_applied : (limit : ℕ) (opening : Opening) (past now : List Entry) (old : Inboxes) (came : List Request) (told : List Receipt) → came ≡ [] → waiting_in_all old ≡ 0 → IsOneThread limit opening past now (waiting_in old ++ came) told → now ≡ past
 nothing_applied limit opening past now old came told none idle one =
     let empty : waiting_in old ++ came ≡ [] = ap (λ (ws : List Request). ws ++ came) (none_among old (none_from_all old idle)) ∙ none in
     one.grows ∙ (ap (λ (es : List Entry). past ++ es) (none_sent one.more (subst (λ (sent : List Request). AllByRecursion (IsSent sent) one.more) empty one.asked)) ∙ append-nil past)
@@ -53,7 +53,7 @@ module _ (keep : ℕ) (mid new : KeptState) (forgets : Forgets keep mid new) whe
       ∙ ap (λ (l : List Entry). past ++ l) (ap (λ (l : List Entry). take forgets.count mid.history ++ l) forgets.left ∙ take-append-drop forgets.count mid.history)
 
   -- what was one thread is so with what is forgotten now
-  pub goes_on_as_one : (opening : Tree) (past : List Entry) (old : KeptState) (sent : List Request) (result : Result Receipt Refusal) → StandsBehind opening past mid
+  pub goes_on_as_one : (opening : Opening) (past : List Entry) (old : KeptState) (sent : List Request) (result : Result Receipt Refusal) → StandsBehind opening past mid
       → IsOneThread old.core.state.tree.limit opening (past ++ old.history) (past ++ mid.history) sent (receipt_in result)
       → IfOk result (λ receipt. StandsInHistory (past ++ mid.history) receipt.client receipt.tid receipt.place receipt.reply) → GoesOnAsOne opening past old new sent result
   goes_on_as_one opening past old sent result behind one stands = record {

@@ -1,5 +1,5 @@
 -- What ranks did that served and granted alone.
-use Rattle.asking.proofs.Common.{Answer, Arrive, Bool, BookState, MatchBool, false, true, Entry, Event, Grant, IsBroughtBy, IsSoundBook, IsStepFor, LeadsTo, List, Option, Rank, Receipt, Refusal, Request, Result, Serve, Steps, Tree, UsesStep, [], ap, append-nil, receipt_in, refl, subst, sym, ℕ, ◌++◌, ◌+◌, ◌∙◌, ◌∷◌, ◌≡◌}
+use Rattle.asking.proofs.Common.{Answer, Arrive, Bool, BookState, MatchBool, Opening, false, true, Entry, Event, Grant, IsBroughtBy, IsSoundBook, IsStepFor, LeadsTo, List, Option, Rank, Receipt, Refusal, Request, Result, Serve, Steps, UsesStep, [], ap, append-nil, receipt_in, refl, subst, sym, ℕ, ◌++◌, ◌+◌, ◌∙◌, ◌∷◌, ◌≡◌}
 use Rattle.std.specs.List.{AllByRecursion}
 use Rattle.std.proofs.lemmas.List.Concat.{flat_map-append}
 use Rattle.std.proofs.lemmas.List.Elements.{Contains-append_left}
@@ -77,7 +77,7 @@ waiting_as_one old new replies sound served =
     subst (λ (rs : List Receipt). ServesAsOne old new waiting rs) served.told (subst (λ (sent : List Request). ServesAsOne old new sent (receipts_of served.results)) none (run_as_one old new served.events served.results served.ran sound))
 
 -- a request more may have been sent
-more_sent : (limit : ℕ) (opening : Tree) (past now : List Entry) (sent more : List Request) (told : List Receipt) → IsOneThread limit opening past now sent told → IsOneThread limit opening past now (sent ++ more) told
+more_sent : (limit : ℕ) (opening : Opening) (past now : List Entry) (sent more : List Request) (told : List Receipt) → IsOneThread limit opening past now sent told → IsOneThread limit opening past now (sent ++ more) told
 more_sent limit opening past now sent more told one = record {
   more = one.more;
   grows = one.grows;

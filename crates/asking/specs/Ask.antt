@@ -6,7 +6,7 @@ use Rattle.mds_types.specs.declared.refusals.Refusal.{Refusal}
 use Rattle.mds_types.specs.declared.refusals.Refusal.TheVariants.{NoInodes, NoMemory, NotAuthority, Trimmed}
 use Rattle.mds_types.specs.declared.requests.Request.{Request}
 use Rattle.mds_types.specs.History.{IsKeptAt, IsNew, IsTrimmed}
-use Rattle.mds_types.specs.Tree.{Tree}
+use Rattle.cluster_core.specs.Opening.{Opening}
 use Rattle.inboxes.specs.Inboxes.{Inboxes, waiting_at, with_waiting}
 use Rattle.inode_table.specs.Numbers.{offer}
 use Rattle.namespace_ops.specs.Served.{LacksNumber}
@@ -89,7 +89,7 @@ NewAreIdle = (ranks : ℕ) → NoneWaits (replicate ranks [])
 pub record Question : Type 0 where
   pub core : Core
   pub history : List Entry
-  pub opening : Tree
+  pub opening : Opening
   pub rank : Rank
   pub request : Request
 

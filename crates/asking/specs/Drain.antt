@@ -7,7 +7,7 @@ use Rattle.mds_types.specs.declared.operations.Op.{Op}
 use Rattle.mds_types.specs.declared.refusals.Refusal.{Refusal}
 use Rattle.mds_types.specs.declared.refusals.Refusal.TheVariants.{NoInodes, Trimmed}
 use Rattle.mds_types.specs.declared.requests.Request.{Request}
-use Rattle.mds_types.specs.Tree.{Tree}
+use Rattle.cluster_core.specs.Opening.{Opening}
 use Rattle.inboxes.specs.Inboxes.{Inboxes, first_waiting, waiting_at}
 use Rattle.cluster_core.specs.Master.{IsMaster}
 use Rattle.cluster_core.specs.Sound.{IsSound}
@@ -45,7 +45,7 @@ FewStrays state n = FewStrayFrom (IsAtHome state) 0 state.inboxes n
 -- the first waiting copy of its pair, was granted all that it needs, and its rank served
 pub record IsRound (old granted new : Core) (past now : List Entry) (rank : Rank) (request : Request)
     (rest : List Request) (result : Result Answer Refusal) : Type 0 where
-  pub opening : Tree
+  pub opening : Opening
   pub sound : IsSound opening past old
   pub few : waiting_in_all old.state.inboxes ≤ 1024
   pub front : waiting_at old.state.inboxes rank ≡ request ∷ rest

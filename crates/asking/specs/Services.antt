@@ -1,6 +1,6 @@
 -- A service asks its book, and keeps the end of its history alone.
 use Rattle.std.specs.Prelude.{◌++◌, ℕ, Bool, List, IfOk, Result}
-use Rattle.mds_types.specs.Tree.{Tree}
+use Rattle.cluster_core.specs.Opening.{Opening}
 use Rattle.mds_types.specs.declared.entries.Entry.{Entry}
 use Rattle.mds_types.specs.declared.ids.Rank.{Rank}
 use Rattle.mds_types.specs.declared.refusals.Refusal.{Refusal}
@@ -17,7 +17,7 @@ use Rattle.asking.specs.Through.{AsksThrough}
 
 -- a book that went on from this opening tree and past goes on from this tree, and its whole history, with what is
 -- forgotten now, is that of one thread; the reply is in it at its place
-pub record GoesOnAsOne (opening : Tree) (past : List Entry) (old new : KeptState) (sent : List Request)
+pub record GoesOnAsOne (opening : Opening) (past : List Entry) (old new : KeptState) (sent : List Request)
     (result : Result Receipt Refusal) : Type 0 where
   pub forgotten : List Entry
   pub behind : StandsBehind opening forgotten new
@@ -30,16 +30,16 @@ pub record GoesOnAsOne (opening : Tree) (past : List Entry) (old new : KeptState
 pub record AsksAndForgets (keep : ℕ) (old new : KeptState) (rank : Rank) (request : Request)
     (result : Result Receipt Refusal) : Type 0 where
   pub middle : KeptState
-  pub asked : (opening : Tree) (past : List Entry) → StandsBehind opening past old
+  pub asked : (opening : Opening) (past : List Entry) → StandsBehind opening past old
       → AsksOnce old.core middle.core (past ++ old.history) (past ++ middle.history) rank request result
-  pub goes_on : (opening : Tree) (past : List Entry) → StandsBehind opening past old → StandsBehind opening past middle
+  pub goes_on : (opening : Opening) (past : List Entry) → StandsBehind opening past old → StandsBehind opening past middle
   pub forgets : Forgets keep middle new
 
 -- so it was asked through exports
 pub record AsksThroughAndForgets (cancel : Bool) (keep : ℕ) (rank : Rank) (request : Request) (old new : KeptState)
     (before after : SentBytes) (result : Result Receipt Refusal) : Type 0 where
   pub middle : KeptState
-  pub asked : (opening : Tree) (past : List Entry) → StandsBehind opening past old
+  pub asked : (opening : Opening) (past : List Entry) → StandsBehind opening past old
       → AsksThrough cancel rank request (whole_of opening past old) (whole_of opening past middle) before after result
-  pub goes_on : (opening : Tree) (past : List Entry) → StandsBehind opening past old → StandsBehind opening past middle
+  pub goes_on : (opening : Opening) (past : List Entry) → StandsBehind opening past old → StandsBehind opening past middle
   pub forgets : Forgets keep middle new

@@ -2,7 +2,7 @@
 ghost use Rattle.std.specs.Prelude.{◌≡◌, ◌≢◌, ◌+◌, ◌≤◌, ◌++◌, ◌∷◌, [], List, IfOk, OnOk, Err};
 ghost use Rattle.std.specs.FinMap as map;
 ghost use Rattle.std.specs.Result.{result_err};
-ghost use Rattle.mds_types.specs.Tree.{Tree};
+ghost use Rattle.cluster_core.specs.Opening.{Opening};
 ghost use Rattle.mds_types.specs.declared.entries.Entry.{Entry as Applied};
 ghost use Rattle.objstore.specs.Objects.{faults_told};
 ghost use Rattle.cluster_core.specs.OneThread.{InOrder, IsOneThread, StandsInHistory, waiting_in};
@@ -37,22 +37,22 @@ pub fn ask<S: Store + Drop>(
     request: Request,
 ) -> Result<Receipt, Refusal>
     requires { NoneWaits book.old.core.state.inboxes }
-    ensures asked { (opening : Tree) (past : List Applied) → StandsBehind opening past book.old
+    ensures asked { (opening : Opening) (past : List Applied) → StandsBehind opening past book.old
         → AsksAlone book.old.core book.new.core (past ++ book.old.history) (past ++ book.new.history) rank request
         result }
     ensures thawed { book.old.core.state.exports ≡ map.empty → result ≢ Err Refusal.Frozen }
     ensures none { OnOk result (NoneWaits book.new.core.state.inboxes) }
-    ensures stands { (opening : Tree) (past : List Applied) → StandsBehind opening past book.old → IfOk result
+    ensures stands { (opening : Opening) (past : List Applied) → StandsBehind opening past book.old → IfOk result
         (λ receipt. StandsInHistory (past ++ book.new.history) receipt.client receipt.tid receipt.place receipt.reply) }
-    ensures one_thread { (opening : Tree) (past : List Applied) → StandsBehind opening past book.old
+    ensures one_thread { (opening : Opening) (past : List Applied) → StandsBehind opening past book.old
         → IsOneThread book.old.core.state.tree.limit opening (past ++ book.old.history) (past ++ book.new.history)
         (request ∷ []) (receipt_in result) }
     ensures in_order { InOrder (places_of book.old) (receipt_in result) (places_of book.new) }
-    ensures reached { (opening : Tree) (past : List Applied) → StandsBehind opening past book.old
+    ensures reached { (opening : Opening) (past : List Applied) → StandsBehind opening past book.old
         → IsBroughtBy request 20 result (whole_of opening past book.old) (whole_of opening past book.new) }
     ensures limit { book.new.core.state.tree.limit ≡ book.old.core.state.tree.limit }
     ensures opening { book.new.opening ≡ book.old.opening }
-    ensures goes_on { (opening : Tree) (past : List Applied) → StandsBehind opening past book.old
+    ensures goes_on { (opening : Opening) (past : List Applied) → StandsBehind opening past book.old
         → StandsBehind opening past book.new }
     ensures sound { IsSoundKept book.new }
     ensures counted { book.new.core.faults ≡ book.old.core.faults + faults_told (result_err result) }
@@ -95,13 +95,13 @@ fn serve_first<S: Store + Drop>(
     requires { (q : Question) × (past : List Applied) × HasComeBehind q past book.old rank client tid }
     ensures asked { (q : Question) (past : List Applied) → HasComeBehind q past book.old rank client tid
         → Answers q (whole_of q.opening past book.new) result }
-    ensures stands { (opening : Tree) (past : List Applied) → StandsBehind opening past book.old → IfOk result
+    ensures stands { (opening : Opening) (past : List Applied) → StandsBehind opening past book.old → IfOk result
         (λ receipt. StandsInHistory (past ++ book.new.history) receipt.client receipt.tid receipt.place receipt.reply) }
-    ensures reached { (opening : Tree) (past : List Applied) → StandsBehind opening past book.old
+    ensures reached { (opening : Opening) (past : List Applied) → StandsBehind opening past book.old
         → LeadsTo client tid [] 19 (receipt_in result) (result_err result)
         (whole_of opening past book.old) (whole_of opening past book.new) }
     ensures opening { book.new.opening ≡ book.old.opening }
-    ensures goes_on { (opening : Tree) (past : List Applied) → StandsBehind opening past book.old
+    ensures goes_on { (opening : Opening) (past : List Applied) → StandsBehind opening past book.old
         → StandsBehind opening past book.new }
     ensures sound { IsSoundKept book.new }
     ensures counted { book.new.core.faults ≡ book.old.core.faults + faults_told (result_err result) }
@@ -144,13 +144,13 @@ fn serve_there<S: Store + Drop>(
         × IsNewAtMaster q rank }
     ensures asked { (q : Question) (past : List Applied) → HasComeBehind q past book.old rank client tid
         → IsNewAtMaster q rank → Answers q (whole_of q.opening past book.new) result }
-    ensures stands { (opening : Tree) (past : List Applied) → StandsBehind opening past book.old → IfOk result
+    ensures stands { (opening : Opening) (past : List Applied) → StandsBehind opening past book.old → IfOk result
         (λ receipt. StandsInHistory (past ++ book.new.history) receipt.client receipt.tid receipt.place receipt.reply) }
-    ensures reached { (opening : Tree) (past : List Applied) → StandsBehind opening past book.old
+    ensures reached { (opening : Opening) (past : List Applied) → StandsBehind opening past book.old
         → LeadsTo client tid [] 18 (receipt_in result) (result_err result)
         (whole_of opening past book.old) (whole_of opening past book.new) }
     ensures opening { book.new.opening ≡ book.old.opening }
-    ensures goes_on { (opening : Tree) (past : List Applied) → StandsBehind opening past book.old
+    ensures goes_on { (opening : Opening) (past : List Applied) → StandsBehind opening past book.old
         → StandsBehind opening past book.new }
     ensures sound { IsSoundKept book.new }
     ensures counted { book.new.core.faults ≡ book.old.core.faults + faults_told (result_err result) }
@@ -176,13 +176,13 @@ fn serve_granted<S: Store + Drop>(
         × IsNewAtMaster q rank }
     ensures asked { (q : Question) (past : List Applied) → HasComeBehind q past book.old rank client tid
         → IsNewAtMaster q rank → Answers q (whole_of q.opening past book.new) result }
-    ensures stands { (opening : Tree) (past : List Applied) → StandsBehind opening past book.old → IfOk result
+    ensures stands { (opening : Opening) (past : List Applied) → StandsBehind opening past book.old → IfOk result
         (λ receipt. StandsInHistory (past ++ book.new.history) receipt.client receipt.tid receipt.place receipt.reply) }
-    ensures reached { (opening : Tree) (past : List Applied) → StandsBehind opening past book.old
+    ensures reached { (opening : Opening) (past : List Applied) → StandsBehind opening past book.old
         → LeadsTo client tid [] 17 (receipt_in result) (result_err result)
         (whole_of opening past book.old) (whole_of opening past book.new) }
     ensures opening { book.new.opening ≡ book.old.opening }
-    ensures goes_on { (opening : Tree) (past : List Applied) → StandsBehind opening past book.old
+    ensures goes_on { (opening : Opening) (past : List Applied) → StandsBehind opening past book.old
         → StandsBehind opening past book.new }
     ensures sound { IsSoundKept book.new }
     ensures counted { book.new.core.faults ≡ book.old.core.faults + faults_told (result_err result) }
@@ -215,20 +215,20 @@ pub fn ask_among<S: Store + Drop>(
     request: Request,
 ) -> Among
     requires { waiting_in_all book.old.core.state.inboxes ≤ 1024 }
-    ensures one_thread { (opening : Tree) (past : List Applied) → StandsBehind opening past book.old
+    ensures one_thread { (opening : Opening) (past : List Applied) → StandsBehind opening past book.old
         → IsOneThread book.old.core.state.tree.limit opening (past ++ book.old.history) (past ++ book.new.history)
         (waiting_in book.old.core.state.inboxes ++ request ∷ []) (result.others.items ++ receipt_in result.answer) }
     ensures in_order { InOrder (places_of book.old)
         (result.others.items ++ receipt_in result.answer) (places_of book.new) }
-    ensures asked { (opening : Tree) (past : List Applied) → StandsBehind opening past book.old
+    ensures asked { (opening : Opening) (past : List Applied) → StandsBehind opening past book.old
         → AsksAmong (whole_of opening past book.old) (whole_of opening past book.new) result.others.items rank request
         result.answer }
     ensures thawed { book.old.core.state.exports ≡ map.empty → result.answer ≢ Err Refusal.Frozen }
-    ensures stands { (opening : Tree) (past : List Applied) → StandsBehind opening past book.old → IfOk result.answer
+    ensures stands { (opening : Opening) (past : List Applied) → StandsBehind opening past book.old → IfOk result.answer
         (λ receipt. StandsInHistory (past ++ book.new.history) receipt.client receipt.tid receipt.place receipt.reply) }
     ensures few { waiting_in_all book.new.core.state.inboxes ≤ 1024 }
     ensures opening { book.new.opening ≡ book.old.opening }
-    ensures goes_on { (opening : Tree) (past : List Applied) → StandsBehind opening past book.old
+    ensures goes_on { (opening : Opening) (past : List Applied) → StandsBehind opening past book.old
         → StandsBehind opening past book.new }
     ensures sound { IsSoundKept book.new }
 {

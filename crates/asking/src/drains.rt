@@ -1,7 +1,7 @@
 //! Draining: all that waits is answered.
 ghost use Rattle.std.specs.Prelude.{◌≡◌, ◌≢◌, ◌⊎◌, ◌-◌, ◌<◌, ◌≤◌, ◌++◌, [], true, cond, vec_capacity, vec_len, List, Ok, Err, IfErr, MatchBool, MatchOption, MatchResult, OnOk};
 ghost use Rattle.std.specs.FinMap as map;
-ghost use Rattle.mds_types.specs.Tree.{Tree};
+ghost use Rattle.cluster_core.specs.Opening.{Opening};
 ghost use Rattle.mds_types.specs.declared.entries.Entry.{Entry as Applied};
 ghost use Rattle.cluster_core.specs.OneThread.{InOrder, IsOneThread, receipt_of, waiting_in};
 ghost use Rattle.cluster_core.specs.Runs.{GoesOnFrom};
@@ -45,9 +45,9 @@ pub struct Drained {
 /// would change a frozen fragment, and so never `Frozen` where no export stands. Those that were answered before it are.
 pub fn drain<S: Store + Drop>(alloc: Global, book: &mut Book<S>) -> Drained
     requires { waiting_in_all book.old.core.state.inboxes ≤ 1024 }
-    ensures served { (opening : Tree) (past : List Applied) → StandsBehind opening past book.old
+    ensures served { (opening : Opening) (past : List Applied) → StandsBehind opening past book.old
         → ServesWaiting (whole_of opening past book.old) (whole_of opening past book.new) result.receipts.items }
-    ensures one_thread { (opening : Tree) (past : List Applied) → StandsBehind opening past book.old
+    ensures one_thread { (opening : Opening) (past : List Applied) → StandsBehind opening past book.old
         → IsOneThread book.old.core.state.tree.limit opening (past ++ book.old.history) (past ++ book.new.history)
         (waiting_in book.old.core.state.inboxes) result.receipts.items }
     ensures in_order { InOrder (places_of book.old) result.receipts.items (places_of book.new) }
@@ -58,7 +58,7 @@ pub fn drain<S: Store + Drop>(alloc: Global, book: &mut Book<S>) -> Drained
     ensures few { waiting_in_all book.new.core.state.inboxes ≤ 1024 }
     ensures grows { GoesOnFrom book.new.history book.old.history }
     ensures opening { book.new.opening ≡ book.old.opening }
-    ensures goes_on { (opening : Tree) (past : List Applied) → StandsBehind opening past book.old
+    ensures goes_on { (opening : Opening) (past : List Applied) → StandsBehind opening past book.old
         → StandsBehind opening past book.new }
     ensures sound { IsSoundKept book.new }
 {
@@ -76,7 +76,7 @@ fn answer_all<S: Store + Drop>(
 ) -> Result<(), Refusal>
     requires few { waiting_in_all book.old.core.state.inboxes ≤ 1024 }
     requires empty { receipts.old.items ≡ [] }
-    ensures served { (opening : Tree) (past : List Applied) → StandsBehind opening past book.old
+    ensures served { (opening : Opening) (past : List Applied) → StandsBehind opening past book.old
         → ServesWaiting (whole_of opening past book.old) (whole_of opening past book.new) receipts.new.items }
     ensures drained { OnOk result (NoneWaits book.new.core.state.inboxes) }
     ensures stopped { IfErr result (IsStopped book.new.core) }
@@ -85,7 +85,7 @@ fn answer_all<S: Store + Drop>(
     ensures few { waiting_in_all book.new.core.state.inboxes ≤ 1024 }
     ensures grows { GoesOnFrom book.new.history book.old.history }
     ensures opening { book.new.opening ≡ book.old.opening }
-    ensures goes_on { (opening : Tree) (past : List Applied) → StandsBehind opening past book.old
+    ensures goes_on { (opening : Opening) (past : List Applied) → StandsBehind opening past book.old
         → StandsBehind opening past book.new }
     ensures sound { IsSoundKept book.new }
 {
@@ -138,13 +138,13 @@ fn play_round<S: Store + Drop>(
     requires few { waiting_in_all book.old.core.state.inboxes ≤ 1024 }
     requires lowest { IsLowest book.old.core.state.inboxes found }
     ensures ends { RoundEnds book.old.core book.new.core result }
-    ensures served { (opening : Tree) (past : List Applied) → StandsBehind opening past book.old
+    ensures served { (opening : Opening) (past : List Applied) → StandsBehind opening past book.old
         → (replies : List Told) × (receipts.new.items ≡ receipts.old.items ++ replies)
         × ServesWaiting (whole_of opening past book.old) (whole_of opening past book.new) replies }
     ensures exports { book.new.core.state.exports ≡ book.old.core.state.exports }
     ensures grows { GoesOnFrom book.new.history book.old.history }
     ensures opening { book.new.opening ≡ book.old.opening }
-    ensures goes_on { (opening : Tree) (past : List Applied) → StandsBehind opening past book.old
+    ensures goes_on { (opening : Opening) (past : List Applied) → StandsBehind opening past book.old
         → StandsBehind opening past book.new }
     ensures sound { IsSoundKept book.new }
 {

@@ -1,7 +1,7 @@
 //! Ending an export that froze its region, by its own next steps.
 ghost use Rattle.std.specs.Prelude.{◌≡◌, ◌<◌, ℕ, List, Some, OnOk};
 ghost use Rattle.std.specs.FinMap as map;
-ghost use Rattle.mds_types.specs.Tree.{Tree};
+ghost use Rattle.cluster_core.specs.Opening.{Opening};
 ghost use Rattle.mds_types.specs.declared.entries.Entry.{Entry as Applied};
 ghost use Rattle.export_steps.specs.declared.exports.ExportState.TheVariants as at;
 ghost use Rattle.export_steps.specs.Standing.{state_at};
@@ -32,11 +32,11 @@ pub fn end_export<S: Store + Drop>(
     frag: Frag,
     cancel: bool,
 ) -> Result<(), Refusal>
-    ensures ends { (opening : Tree) (past : List Applied) → StandsBehind opening past book.old
+    ensures ends { (opening : Opening) (past : List Applied) → StandsBehind opening past book.old
         → EndsExport cancel (ino, frag) (whole_of opening past book.old) (whole_of opening past book.new) kept.old
         kept.new result }
     ensures opening { book.new.opening ≡ book.old.opening }
-    ensures goes_on { (opening : Tree) (past : List Applied) → StandsBehind opening past book.old
+    ensures goes_on { (opening : Opening) (past : List Applied) → StandsBehind opening past book.old
         → StandsBehind opening past book.new }
     ensures sound { IsSoundKept book.new }
 {
@@ -74,11 +74,11 @@ fn end_frozen<S: Store + Drop>(
     cancel: bool,
 ) -> Result<(), Refusal>
     requires { state_at book.old.core.state.exports (ino, frag) ≡ Some at.Frozen }
-    ensures ends { (opening : Tree) (past : List Applied) → StandsBehind opening past book.old
+    ensures ends { (opening : Opening) (past : List Applied) → StandsBehind opening past book.old
         → EndsFrozen cancel (ino, frag) 4 (whole_of opening past book.old) (whole_of opening past book.new) kept.old
         kept.new result }
     ensures opening { book.new.opening ≡ book.old.opening }
-    ensures goes_on { (opening : Tree) (past : List Applied) → StandsBehind opening past book.old
+    ensures goes_on { (opening : Opening) (past : List Applied) → StandsBehind opening past book.old
         → StandsBehind opening past book.new }
     ensures sound { IsSoundKept book.new }
 {
@@ -102,11 +102,11 @@ fn end_prepared<S: Store + Drop>(
     cancel: bool,
 ) -> Result<(), Refusal>
     requires { state_at book.old.core.state.exports (ino, frag) ≡ Some at.Prepared }
-    ensures ends { (opening : Tree) (past : List Applied) → StandsBehind opening past book.old
+    ensures ends { (opening : Opening) (past : List Applied) → StandsBehind opening past book.old
         → EndsFrozen cancel (ino, frag) 3 (whole_of opening past book.old) (whole_of opening past book.new) kept.old
         kept.new result }
     ensures opening { book.new.opening ≡ book.old.opening }
-    ensures goes_on { (opening : Tree) (past : List Applied) → StandsBehind opening past book.old
+    ensures goes_on { (opening : Opening) (past : List Applied) → StandsBehind opening past book.old
         → StandsBehind opening past book.new }
     ensures sound { IsSoundKept book.new }
 {
@@ -128,12 +128,12 @@ fn send<S: Store + Drop>(
     ino: Ino,
     frag: Frag,
 ) -> Result<Answer, Refusal>
-    ensures sends { (opening : Tree) (past : List Applied) → StandsBehind opening past book.old
+    ensures sends { (opening : Opening) (past : List Applied) → StandsBehind opening past book.old
         → TriesToSend (ino, frag) (whole_of opening past book.old) (whole_of opening past book.new) result }
     ensures room { OnOk result (0 < kept.new.room) }
     ensures bytes { kept.new.bytes ≡ kept.old.bytes }
     ensures opening { book.new.opening ≡ book.old.opening }
-    ensures goes_on { (opening : Tree) (past : List Applied) → StandsBehind opening past book.old
+    ensures goes_on { (opening : Opening) (past : List Applied) → StandsBehind opening past book.old
         → StandsBehind opening past book.new }
     ensures sound { IsSoundKept book.new }
 {
@@ -170,11 +170,11 @@ fn end_sent<S: Store + Drop>(
     cancel: bool,
 ) -> Result<(), Refusal>
     requires { state_at book.old.core.state.exports (ino, frag) ≡ Some at.Sent }
-    ensures ends { (opening : Tree) (past : List Applied) → StandsBehind opening past book.old
+    ensures ends { (opening : Opening) (past : List Applied) → StandsBehind opening past book.old
         → EndsFrozen cancel (ino, frag) 2 (whole_of opening past book.old) (whole_of opening past book.new) kept.old
         kept.new result }
     ensures opening { book.new.opening ≡ book.old.opening }
-    ensures goes_on { (opening : Tree) (past : List Applied) → StandsBehind opening past book.old
+    ensures goes_on { (opening : Opening) (past : List Applied) → StandsBehind opening past book.old
         → StandsBehind opening past book.new }
     ensures sound { IsSoundKept book.new }
 {
@@ -202,11 +202,11 @@ fn finish<S: Store + Drop>(
     cancel: bool,
 )
     requires { state_at book.old.core.state.exports (ino, frag) ≡ Some at.Imported }
-    ensures ends { (opening : Tree) (past : List Applied) → StandsBehind opening past book.old
+    ensures ends { (opening : Opening) (past : List Applied) → StandsBehind opening past book.old
         → HasEnded cancel (ino, frag) 1 (whole_of opening past book.old) (whole_of opening past book.new) kept.old
         kept.new }
     ensures opening { book.new.opening ≡ book.old.opening }
-    ensures goes_on { (opening : Tree) (past : List Applied) → StandsBehind opening past book.old
+    ensures goes_on { (opening : Opening) (past : List Applied) → StandsBehind opening past book.old
         → StandsBehind opening past book.new }
     ensures sound { IsSoundKept book.new }
 {
@@ -228,10 +228,10 @@ fn unless_cancelled<S: Store + Drop>(
     refusal: Refusal,
 ) -> Result<(), Refusal>
     requires { IsUnsent book.old.core.state (ino, frag) }
-    ensures cancels { (opening : Tree) (past : List Applied) → StandsBehind opening past book.old
+    ensures cancels { (opening : Opening) (past : List Applied) → StandsBehind opening past book.old
         → CancelsOr cancel (ino, frag) (whole_of opening past book.old) (whole_of opening past book.new) refusal result }
     ensures opening { book.new.opening ≡ book.old.opening }
-    ensures goes_on { (opening : Tree) (past : List Applied) → StandsBehind opening past book.old
+    ensures goes_on { (opening : Opening) (past : List Applied) → StandsBehind opening past book.old
         → StandsBehind opening past book.new }
     ensures sound { IsSoundKept book.new }
 {

@@ -2,7 +2,7 @@
 ghost use Rattle.std.specs.Prelude.{◌≡◌, ◌≢◌, ◌+◌, [], List, Some, MatchResult};
 ghost use Rattle.std.specs.Result.{result_err};
 ghost use Rattle.objstore.specs.Objects.{faults_told};
-ghost use Rattle.mds_types.specs.Tree.{Tree};
+ghost use Rattle.cluster_core.specs.Opening.{Opening};
 ghost use Rattle.mds_types.specs.declared.entries.Entry.{Entry as Applied};
 ghost use Rattle.mds_types.specs.declared.requests.Request.{Request as Asked};
 ghost use Rattle.inboxes.specs.Inboxes.{first_waiting};
@@ -28,12 +28,12 @@ pub fn grant_all<S: Store + Drop>(
 ) -> Result<(), Refusal>
     ensures granted { (request : Asked) → first_waiting client tid book.old.core.state.inboxes ≡ Some request
         → GrantsEach book.old.core book.new.core client tid request.op result }
-    ensures reached { (opening : Tree) (past : List Applied) → StandsBehind opening past book.old
+    ensures reached { (opening : Opening) (past : List Applied) → StandsBehind opening past book.old
         → LeadsTo client tid [] 16 [] (result_err result)
         (whole_of opening past book.old) (whole_of opening past book.new) }
     ensures history { book.new.history ≡ book.old.history }
     ensures opening { book.new.opening ≡ book.old.opening }
-    ensures goes_on { (opening : Tree) (past : List Applied) → StandsBehind opening past book.old
+    ensures goes_on { (opening : Opening) (past : List Applied) → StandsBehind opening past book.old
         → StandsBehind opening past book.new }
     ensures sound { IsSoundKept book.new }
     ensures counted { book.new.core.faults ≡ book.old.core.faults + faults_told (result_err result) }
@@ -57,12 +57,12 @@ fn grant_own<S: Store + Drop>(
 ) -> Result<(), Refusal>
     ensures granted { (request : Asked) → first_waiting client tid book.old.core.state.inboxes ≡ Some request
         → GrantsOf book.old.core book.new.core rank client tid request.op result }
-    ensures reached { (opening : Tree) (past : List Applied) → StandsBehind opening past book.old
+    ensures reached { (opening : Opening) (past : List Applied) → StandsBehind opening past book.old
         → LeadsTo client tid [] 1 [] (result_err result)
         (whole_of opening past book.old) (whole_of opening past book.new) }
     ensures history { book.new.history ≡ book.old.history }
     ensures opening { book.new.opening ≡ book.old.opening }
-    ensures goes_on { (opening : Tree) (past : List Applied) → StandsBehind opening past book.old
+    ensures goes_on { (opening : Opening) (past : List Applied) → StandsBehind opening past book.old
         → StandsBehind opening past book.new }
     ensures sound { IsSoundKept book.new }
     ensures counted { book.new.core.faults ≡ book.old.core.faults + faults_told (result_err result) }

@@ -2,7 +2,7 @@
 ghost use Rattle.std.specs.Prelude.{◌≡◌, ◌+◌, ◌++◌, ◌∷◌, [], ℕ, List, Ok, Err};
 ghost use Rattle.std.specs.Result.{result_err};
 ghost use Rattle.objstore.specs.Objects.{faults_told};
-ghost use Rattle.mds_types.specs.Tree.{Tree};
+ghost use Rattle.cluster_core.specs.Opening.{Opening};
 ghost use Rattle.mds_types.specs.declared.entries.Entry.{Entry as Applied};
 ghost use Rattle.mds_types.specs.declared.requests.Request.{Request as Asked};
 ghost use Rattle.inboxes.specs.Inboxes.{waiting_at};
@@ -35,17 +35,17 @@ pub(crate) fn serve<S: Store + Drop>(
     rank: Rank,
 ) -> Result<Served, Refusal>
     requires { SomeWaits book.old.core.state.inboxes rank }
-    ensures served { (opening : Tree) (past : List Applied) → StandsBehind opening past book.old
+    ensures served { (opening : Opening) (past : List Applied) → StandsBehind opening past book.old
         → (request : Asked) (rest : List Asked) → waiting_at book.old.core.state.inboxes rank ≡ request ∷ rest
         → ServesTo book.old.core book.new.core (past ++ book.old.history) (past ++ book.new.history) rank request rest
         result }
-    ensures stands { (opening : Tree) (past : List Applied) → StandsBehind opening past book.old
+    ensures stands { (opening : Opening) (past : List Applied) → StandsBehind opening past book.old
         → StandsFor (past ++ book.new.history) result }
-    ensures reached { (opening : Tree) (past : List Applied) → StandsBehind opening past book.old → (client tid : ℕ)
+    ensures reached { (opening : Opening) (past : List Applied) → StandsBehind opening past book.old → (client tid : ℕ)
         → LeadsTo client tid [] 1 (receipts_in result) (result_err result)
         (whole_of opening past book.old) (whole_of opening past book.new) }
     ensures opening { book.new.opening ≡ book.old.opening }
-    ensures goes_on { (opening : Tree) (past : List Applied) → StandsBehind opening past book.old
+    ensures goes_on { (opening : Opening) (past : List Applied) → StandsBehind opening past book.old
         → StandsBehind opening past book.new }
     ensures sound { IsSoundKept book.new }
     ensures counted { book.new.core.faults ≡ book.old.core.faults + faults_told (result_err result) }

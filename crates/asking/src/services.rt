@@ -1,7 +1,7 @@
 //! A book to ask, and nothing else: whatever was asked, nothing is left waiting.
 ghost use Rattle.std.specs.Prelude.{◌≡◌, ◌≢◌, ◌++◌, ◌∷◌, [], List, None, Err, IfErr, IfOk, MatchResult, OnOk};
 ghost use Rattle.std.specs.FinMap as map;
-ghost use Rattle.mds_types.specs.Tree.{Tree};
+ghost use Rattle.cluster_core.specs.Opening.{Opening};
 ghost use Rattle.mds_types.specs.declared.entries.Entry.{Entry as Applied};
 ghost use Rattle.cluster_core.specs.Flush.{Flushes, IsColdTree};
 ghost use Rattle.cluster_core.specs.OneThread.{InOrder, IsOneThread, StandsInHistory, arrival};
@@ -40,19 +40,19 @@ pub fn ask_once<S: Store + Drop>(
     request: Request,
 ) -> Result<Receipt, Refusal>
     requires { NoneWaits book.old.core.state.inboxes }
-    ensures one_thread { (opening : Tree) (past : List Applied) → StandsBehind opening past book.old
+    ensures one_thread { (opening : Opening) (past : List Applied) → StandsBehind opening past book.old
         → IsOneThread book.old.core.state.tree.limit opening (past ++ book.old.history) (past ++ book.new.history)
         (request ∷ []) (receipt_in result) }
     ensures in_order { InOrder (places_of book.old) (receipt_in result) (places_of book.new) }
-    ensures asked { (opening : Tree) (past : List Applied) → StandsBehind opening past book.old
+    ensures asked { (opening : Opening) (past : List Applied) → StandsBehind opening past book.old
         → AsksOnce book.old.core book.new.core (past ++ book.old.history) (past ++ book.new.history) rank request result }
     ensures thawed { book.old.core.state.exports ≡ map.empty → result ≢ Err Refusal.Frozen }
     ensures none { NoneWaits book.new.core.state.inboxes }
-    ensures stands { (opening : Tree) (past : List Applied) → StandsBehind opening past book.old → IfOk result
+    ensures stands { (opening : Opening) (past : List Applied) → StandsBehind opening past book.old → IfOk result
         (λ receipt. StandsInHistory (past ++ book.new.history) receipt.client receipt.tid receipt.place receipt.reply) }
     ensures limit { book.new.core.state.tree.limit ≡ book.old.core.state.tree.limit }
     ensures opening { book.new.opening ≡ book.old.opening }
-    ensures goes_on { (opening : Tree) (past : List Applied) → StandsBehind opening past book.old
+    ensures goes_on { (opening : Opening) (past : List Applied) → StandsBehind opening past book.old
         → StandsBehind opening past book.new }
     ensures sound { IsSoundKept book.new }
 {
@@ -71,7 +71,7 @@ pub fn ask_once<S: Store + Drop>(
 fn leave<S: Store + Drop>(book: &mut Book<S>)
     ensures left { Leaves book.old book.new }
     ensures opening { book.new.opening ≡ book.old.opening }
-    ensures goes_on { (opening : Tree) (past : List Applied) → StandsBehind opening past book.old
+    ensures goes_on { (opening : Opening) (past : List Applied) → StandsBehind opening past book.old
         → StandsBehind opening past book.new }
     ensures sound { IsSoundKept book.new }
 {
@@ -144,7 +144,7 @@ impl<S: Store + Drop> Service<S> {
         ensures gone { self.new.book.opening ≡ None }
         ensures history { self.new.book.history ≡ self.old.book.history }
         ensures core { self.new.book.core ≡ self.old.book.core }
-        ensures goes_on { (opening : Tree) (past : List Applied) → StandsBehind opening past self.old.book
+        ensures goes_on { (opening : Opening) (past : List Applied) → StandsBehind opening past self.old.book
             → StandsBehind opening past self.new.book }
     {
         self.book.drop_opening();
@@ -154,13 +154,13 @@ impl<S: Store + Drop> Service<S> {
     /// refused.
     pub fn step(&mut self, alloc: Global, event: Event) -> Result<Answer, Refusal>
         requires { arrival event ≡ [] }
-        ensures stepped { (opening : Tree) (past : List Applied) → StandsBehind opening past self.old.book
+        ensures stepped { (opening : Opening) (past : List Applied) → StandsBehind opening past self.old.book
             → Steps self.old.book.core self.new.book.core (past ++ self.old.book.history)
             (past ++ self.new.book.history) result event }
         ensures uses { UsesStep self.old.book.core self.new.book.core result event }
         ensures silent { self.new.book.history ≡ self.old.book.history }
         ensures limit { self.new.book.core.state.tree.limit ≡ self.old.book.core.state.tree.limit }
-        ensures goes_on { (opening : Tree) (past : List Applied) → StandsBehind opening past self.old.book
+        ensures goes_on { (opening : Opening) (past : List Applied) → StandsBehind opening past self.old.book
             → StandsBehind opening past self.new.book }
         ensures opening { self.new.book.opening ≡ self.old.book.opening }
     {
@@ -173,7 +173,7 @@ impl<S: Store + Drop> Service<S> {
         ensures cold { OnOk result
             (IsColdTree self.new.book.core.state.tree.objects (shown self.old.book.core.state)) }
         ensures outcome { Flushes self.old.book self.new.book result }
-        ensures goes_on { (opening : Tree) (past : List Applied) → StandsBehind opening past self.old.book
+        ensures goes_on { (opening : Opening) (past : List Applied) → StandsBehind opening past self.old.book
             → StandsBehind opening past self.new.book }
     {
         flush(rt, alloc, &mut self.book)
@@ -182,7 +182,7 @@ impl<S: Store + Drop> Service<S> {
     /// A request comes in at a rank, and gets its answer, or is refused as `ask_once` is: then nothing of it is left.
     #[inline(always)]
     pub fn ask(&mut self, alloc: Global, rank: Rank, request: Request) -> Result<Receipt, Refusal>
-        ensures one_thread { (opening : Tree) (past : List Applied) → StandsBehind opening past self.old.book
+        ensures one_thread { (opening : Opening) (past : List Applied) → StandsBehind opening past self.old.book
             → GoesOnAsOne opening past self.old.book self.new.book (request ∷ []) result }
         ensures in_order { InOrder (places_of self.old.book) (receipt_in result) (places_of self.new.book) }
         ensures asked { AsksAndForgets self.old.history self.old.book self.new.book rank request result }
@@ -205,7 +205,7 @@ impl<S: Store + Drop> Service<S> {
         request: Request,
         cancel: bool,
     ) -> Result<Receipt, Refusal>
-        ensures one_thread { (opening : Tree) (past : List Applied) → StandsBehind opening past self.old.book
+        ensures one_thread { (opening : Opening) (past : List Applied) → StandsBehind opening past self.old.book
             → GoesOnAsOne opening past self.old.book self.new.book (request ∷ []) result }
         ensures in_order { InOrder (places_of self.old.book) (receipt_in result) (places_of self.new.book) }
         ensures asked { AsksThroughAndForgets cancel self.old.history rank request self.old.book self.new.book kept.old

@@ -1,6 +1,6 @@
 //! Asking through exports: those that keep a request from its answer are brought to their end.
 ghost use Rattle.std.specs.Prelude.{◌≡◌, ◌≢◌, ◌++◌, ◌∷◌, [], List, Err, IfOk, MatchOption, MatchResult};
-ghost use Rattle.mds_types.specs.Tree.{Tree};
+ghost use Rattle.cluster_core.specs.Opening.{Opening};
 ghost use Rattle.mds_types.specs.declared.entries.Entry.{Entry as Applied};
 ghost use Rattle.cluster_core.specs.OneThread.{InOrder, IsOneThread, StandsInHistory};
 ghost use Rattle.cluster_core.specs.Sound.{StandsBehind, IsSoundKept};
@@ -35,20 +35,20 @@ pub fn ask_through<S: Store + Drop>(
     cancel: bool,
 ) -> Result<Receipt, Refusal>
     requires { NoneWaits book.old.core.state.inboxes }
-    ensures one_thread { (opening : Tree) (past : List Applied) → StandsBehind opening past book.old
+    ensures one_thread { (opening : Opening) (past : List Applied) → StandsBehind opening past book.old
         → IsOneThread book.old.core.state.tree.limit opening (past ++ book.old.history) (past ++ book.new.history)
         (request ∷ []) (receipt_in result) }
     ensures in_order { InOrder (places_of book.old) (receipt_in result) (places_of book.new) }
-    ensures asked { (opening : Tree) (past : List Applied) → StandsBehind opening past book.old
+    ensures asked { (opening : Opening) (past : List Applied) → StandsBehind opening past book.old
         → AsksThrough cancel rank request (whole_of opening past book.old) (whole_of opening past book.new) kept.old
         kept.new result }
     ensures thawed { HasAllBytes book.old.core.state kept.old → result ≡ Err Refusal.Frozen → CantSend cancel book.new.core.state }
     ensures none { NoneWaits book.new.core.state.inboxes }
-    ensures stands { (opening : Tree) (past : List Applied) → StandsBehind opening past book.old → IfOk result
+    ensures stands { (opening : Opening) (past : List Applied) → StandsBehind opening past book.old → IfOk result
         (λ receipt. StandsInHistory (past ++ book.new.history) receipt.client receipt.tid receipt.place receipt.reply) }
     ensures limit { book.new.core.state.tree.limit ≡ book.old.core.state.tree.limit }
     ensures opening { book.new.opening ≡ book.old.opening }
-    ensures goes_on { (opening : Tree) (past : List Applied) → StandsBehind opening past book.old
+    ensures goes_on { (opening : Opening) (past : List Applied) → StandsBehind opening past book.old
         → StandsBehind opening past book.new }
     ensures sound { IsSoundKept book.new }
 {
@@ -82,18 +82,18 @@ fn ask_copy<S: Store + Drop>(
     request: &Request,
 ) -> Result<Receipt, Refusal>
     requires { NoneWaits book.old.core.state.inboxes }
-    ensures one_thread { (opening : Tree) (past : List Applied) → StandsBehind opening past book.old
+    ensures one_thread { (opening : Opening) (past : List Applied) → StandsBehind opening past book.old
         → IsOneThread book.old.core.state.tree.limit opening (past ++ book.old.history) (past ++ book.new.history)
         (request.now ∷ []) (receipt_in result) }
     ensures in_order { InOrder (places_of book.old) (receipt_in result) (places_of book.new) }
-    ensures asked { (opening : Tree) (past : List Applied) → StandsBehind opening past book.old
+    ensures asked { (opening : Opening) (past : List Applied) → StandsBehind opening past book.old
         → AsksCopy (whole_of opening past book.old) (whole_of opening past book.new) rank request.now result }
     ensures none { NoneWaits book.new.core.state.inboxes }
-    ensures stands { (opening : Tree) (past : List Applied) → StandsBehind opening past book.old → IfOk result
+    ensures stands { (opening : Opening) (past : List Applied) → StandsBehind opening past book.old → IfOk result
         (λ receipt. StandsInHistory (past ++ book.new.history) receipt.client receipt.tid receipt.place receipt.reply) }
     ensures limit { book.new.core.state.tree.limit ≡ book.old.core.state.tree.limit }
     ensures opening { book.new.opening ≡ book.old.opening }
-    ensures goes_on { (opening : Tree) (past : List Applied) → StandsBehind opening past book.old
+    ensures goes_on { (opening : Opening) (past : List Applied) → StandsBehind opening past book.old
         → StandsBehind opening past book.new }
     ensures sound { IsSoundKept book.new }
 {

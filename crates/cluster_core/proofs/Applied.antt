@@ -1,6 +1,6 @@
 -- A book stays sound where a request is applied.
-use Rattle.cluster_core.proofs.Common.{Answer, AreCached, AreExported, AreRoots, AreSupplied, Bool, Core, Entry, Ino, IsApplied, IsFresh, IsSoundWith, IsLawful, IsSound, IsSupplied, IsSupply, List, None, Option, Outcome, Rank, Request, Some, State, Supply, Tree, [], after, after-push, after_taking, ap, arith, cond, end_number, entry_of, eqb, eqb-false, eqb-true, false, first_number, get_or, get_or-set_other, get_or-set_same, is_some, legal-push, length, length-set, nat_lt, nat_tests, no_supply, number_of, number_or, offer, outcome_of, refl, set, shown, step, supply_of, sym, table-push, true, true≢false, unused, used-push, with_entry, with_waiting, ℕ, ⊎_elim, ◌++◌, ◌<◌, ◌∙◌, ◌∷◌, ◌≡◌, ◌≢◌, ◌≤◌}
-use Rattle.mds_types.specs.History.{IsNext}
+use Rattle.cluster_core.proofs.Common.{Answer, AreCached, AreExported, AreRoots, AreSupplied, Bool, Core, Entry, Ino, IsApplied, IsFresh, IsSoundWith, IsLawful, IsSound, IsSupplied, IsSupply, List, None, Opening, Option, Outcome, Rank, Request, Some, State, Supply, Tree, [], after, after-push, after_taking, ap, arith, cond, end_number, entry_of, eqb, eqb-false, eqb-true, false, first_number, get_or, get_or-set_other, get_or-set_same, is_some, legal-push, length, length-set, nat_lt, nat_tests, no_supply, number_of, number_or, offer, outcome_of, refl, set, shown, step, supply_of, sym, table-push, true, true≢false, unused, used-push, with_entry, with_waiting, ℕ, ⊎_elim, ◌++◌, ◌<◌, ◌∙◌, ◌∷◌, ◌≡◌, ◌≢◌, ◌≤◌}
+use Rattle.cluster_core.proofs.OpeningLaws.{after_from-push, legal_from-push, used_from-push}
 
 -- what an offer of a number comes to: the table took it, or it took none and the outcome is that of any number
 pub record IsTaking (limit : ℕ) (tree : Tree) (request : Request) (s : Supply) (number : Option Ino) (outcome : Outcome) : Type 0 where
@@ -39,22 +39,22 @@ taking_of state rank request numbered =
     taking state.tree.limit (shown state) request s (nat_lt s.next (end_number s.rank)) (outcome_of state rank request).takes (λ e. grind (arith, nat_tests)) refl numbered
 
 -- the supply afterwards
-after_taking-fresh : (opening : Tree) (past : List Entry) (s : Supply) (e : Entry)
+after_taking-fresh : (opening : Opening) (past : List Entry) (s : Supply) (e : Entry)
     → IsFresh opening past s → ((n : Ino) → e.number ≡ Some n → n.0 ≡ s.next) → IsFresh opening (past ++ e ∷ []) (after_taking s e.number)
 after_taking-fresh opening past s e fresh next_one = go e.number refl
   where
     go : (number : Option Ino) → e.number ≡ number → IsFresh opening (past ++ e ∷ []) (after_taking s number)
-    go None is n from below among = ⊎_elim (λ before. fresh n from below before) (λ now. cc) (used-push opening past e n among)
+    go None is n from below among = ⊎_elim (λ before. fresh n from below before) (λ now. cc) (used_from-push opening past e n among)
     go (Some m) is n from below among =
-        ⊎_elim (λ before. omega (arith, fresh n from below before)) (λ now. omega (arith, next_one (record { 0 = n }) now)) (used-push opening past e n among)
+        ⊎_elim (λ before. omega (arith, fresh n from below before)) (λ now. omega (arith, next_one (record { 0 = n }) now)) (used_from-push opening past e n among)
 
 after_taking-supplied : (s : Supply) (number : Option Ino) → IsSupply s → ((n : Ino) → number ≡ Some n → (n.0 ≡ s.next) × (s.next < end_number s.rank)) → IsSupply (after_taking s number)
 after_taking-supplied s None h next_one = h
 after_taking-supplied s (Some n) h next_one =
     record { ranked = h.ranked; started = omega (arith, h.started); ended = omega (arith, (next_one n refl).1) }
 
-lawful : (opening : Tree) (past : List Entry) (s : Supply) (number : Option Ino) → IsSupply s → IsFresh opening past s
-    → ((n : Ino) → number ≡ Some n → (n.0 ≡ s.next) × (s.next < end_number s.rank)) → IsLawful opening past number
+lawful : (opening : Opening) (past : List Entry) (s : Supply) (number : Option Ino) → IsSupply s → IsFresh opening past s
+    → ((n : Ino) → number ≡ Some n → (n.0 ≡ s.next) × (s.next < end_number s.rank)) → IsLawfulFrom opening past number
 lawful opening past s None h fresh next_one = tt
 lawful opening past s (Some n) h fresh next_one = λ before.
     let w = next_one n refl in
@@ -72,13 +72,13 @@ one_range : (a b n : ℕ) → first_number a ≤ n → n < end_number a → firs
 one_range a b n low high least most = omega (arith, low, high, least, most)
 
 -- another rank's supply is as fresh as it was
-others-fresh : (opening : Tree) (past : List Entry) (s other : Supply) (e : Entry) → s.rank ≢ other.rank → IsFresh opening past other
+others-fresh : (opening : Opening) (past : List Entry) (s other : Supply) (e : Entry) → s.rank ≢ other.rank → IsFresh opening past other
     → ((n : Ino) → e.number ≡ Some n → (first_number s.rank ≤ n.0) × (n.0 < end_number s.rank)) → IsFresh opening (past ++ e ∷ []) other
 others-fresh opening past s other e apart fresh range n from below among =
-    ⊎_elim (λ before. fresh n from below before) (λ now. let r = range (record { 0 = n }) now in absurd (apart (one_range s.rank other.rank n r.0 r.1 from below))) (used-push opening past e n among)
+    ⊎_elim (λ before. fresh n from below before) (λ now. let r = range (record { 0 = n }) now in absurd (apart (one_range s.rank other.rank n r.0 r.1 from below))) (used_from-push opening past e n among)
 
 -- each rank has its supply after one of them gave out a number
-module _ (opening : Tree) (past : List Entry) (numbers : List Supply) (rank : ℕ) (e : Entry) (there : rank < length numbers) (before : AreSupplied opening past numbers)
+module _ (opening : Opening) (past : List Entry) (numbers : List Supply) (rank : ℕ) (e : Entry) (there : rank < length numbers) (before : AreSupplied opening past numbers)
     (next_one : (n : Ino) → e.number ≡ Some n → (n.0 ≡ (get_or numbers rank no_supply).next) × ((get_or numbers rank no_supply).next < end_number (get_or numbers rank no_supply).rank)) where
   abbrev mine : Supply
   mine = get_or numbers rank no_supply
@@ -111,17 +111,17 @@ module _ (opening : Tree) (past : List Entry) (numbers : List Supply) (rank : �
       go false other = let apart = eqb-false k rank other in rw (get_or-set_other numbers rank k taken no_supply apart) (elsewhere k (omega (arith, below, length-set numbers rank taken)) apart)
 
 -- a book stays sound where a request is applied
-pub sound-applied : (opening : Tree) (past now : List Entry) (old new : Core) (rank : Rank) (request : Request) (rest : List Request) (answer : Answer)
+pub sound-applied : (opening : Opening) (past now : List Entry) (old new : Core) (rank : Rank) (request : Request) (rest : List Request) (answer : Answer)
     → rank.0 < length old.state.numbers → IsSound opening past old → IsSoundWith new.state.tree new.caches → AreCached new → AreExported new → length new.caches.used ≡ length old.caches.used → AreRoots new.state.tree new.state.roots
     → new.state.tree.limit ≡ old.state.tree.limit → IsApplied old.state new.state past now rank request rest answer → IsSound opening now new
 sound-applied opening past now old new rank request rest answer there sound tree cached exported count valid limit done =
     let before = old.state in
     let e = entry_of before rank request in
     let t = taking_of before rank request done.numbered in
-    let first = after before.tree.limit opening past in
+    let first = after_from before.tree.limit opening past in
     let same : step before.tree.limit first e.op (number_or e.number) ≡ outcome_of before rank request = ap (λ (t : Tree). step before.tree.limit t e.op (number_or e.number)) (sym sound.replayed) ∙ t.same in
     let mine = sound.supplied rank.0 there in
-    let next : IsNext before.tree.limit opening past e = record {
+    let next : IsNextFrom before.tree.limit opening past e = record {
       once = done.is_new.absent;
       own = done.is_new.own;
       marked = done.is_new.marked;
@@ -133,8 +133,8 @@ sound-applied opening past now old new rank request rest answer there sound tree
     let inboxes : new.state.inboxes ≡ with_waiting before.inboxes rank rest = ap (λ (s : State). s.inboxes) done.left in
     let sessions : new.state.sessions ≡ with_entry before.sessions (length past) e = ap (λ (s : State). s.sessions) done.left in
     record {
-      legal = rw (limit, done.appended) (legal-push before.tree.limit opening past e sound.legal next);
-      replayed = done.tree ∙ ap (λ (o : Outcome). o.tree) (sym same) ∙ sym (after-push before.tree.limit opening past e) ∙ (λ i. after (sym limit i) opening (sym done.appended i));
+      legal = rw (limit, done.appended) (legal_from-push before.tree.limit opening past e sound.legal next);
+      replayed = done.tree ∙ ap (λ (o : Outcome). o.tree) (sym same) ∙ sym (after_from-push before.tree.limit opening past e sound.legal.begins) ∙ (λ i. after_from (sym limit i) opening (sym done.appended i));
       tree = tree;
       subtrees = valid;
       cached = cached;

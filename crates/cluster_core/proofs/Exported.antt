@@ -1,5 +1,5 @@
 -- What a step of an export leaves where the tree and the roots stay: whose each leaf is, and which rank holds it.
-use Rattle.cluster_core.proofs.Common.{AreRoots, Core, Entry, IsSound, KeepsAuthorities, KeepsHolders, List, Tree, arith, length, suc, zero, ℕ, ◌<◌, ◌≡◌, ◌≤◌}
+use Rattle.cluster_core.proofs.Common.{AreRoots, Core, Entry, IsSound, KeepsAuthorities, KeepsHolders, List, Opening, arith, length, suc, zero, ℕ, ◌<◌, ◌≡◌, ◌≤◌}
 use Rattle.cluster_core.specs.State.{held_roots}
 
 module _ (old new : Core) (tree : new.state.tree ≡ old.state.tree) where
@@ -17,7 +17,7 @@ few_below : (count : ℕ) → ((rank : ℕ) → rank < count → rank < 16) → 
 few_below zero all = omega arith
 few_below (suc count) all = let last = all count (omega arith) in omega (arith, last)
 
-pub few_ranks : (opening : Tree) (past : List Entry) (core : Core) → IsSound opening past core → length core.caches.used ≤ 16
+pub few_ranks : (opening : Opening) (past : List Entry) (core : Core) → IsSound opening past core → length core.caches.used ≤ 16
 few_ranks opening past core sound =
     let few = few_below (length core.state.numbers) (λ rank there. let s = sound.supplied rank there in let ranked = s.supply.ranked in let own = s.own in omega (arith, ranked, own)) in
     let is = sound.ranks.caches in

@@ -1,5 +1,5 @@
 -- A flush leaves a sound book.
-use Rattle.cluster_core.proofs.Common.{AreCached, AreExported, AreSetAside, Core, Entry, IsSoundBehind, List, Table, Tree, subst, sym, ◌++◌, HasFragment, IsSoundWith, IsSoundBook, KeepsCore, BookState, NoneEnds, State, ap, arith, came_ranks, keeps_tables, length, refl, suc, zero, ℕ, ◌<◌, ◌≤◌}
+use Rattle.cluster_core.proofs.Common.{AreCached, AreExported, AreSetAside, Core, Entry, IsSoundBehind, List, Opening, Table, subst, sym, ◌++◌, HasFragment, IsSoundWith, IsSoundBook, KeepsCore, BookState, NoneEnds, State, ap, arith, came_ranks, keeps_tables, length, refl, suc, zero, ℕ, ◌<◌, ◌≤◌}
 use Rattle.cluster_core.proofs.Stepped.{sound-same}
 
 -- each rank has a range of numbers, so there are no more than the ranges
@@ -15,7 +15,7 @@ flushed_sound book new sound keeps kept cached exported =
     refl keeps.tree (ap (λ (s : State). s.numbers) keeps.left) (ap (λ (s : State). length s.inboxes) keeps.left) (ap (λ (s : State). s.sessions) keeps.left)
 
 -- so is one of which a beginning is forgotten
-pub flushed_behind : (opening : Tree) (past history : List Entry) (core new : Core) → IsSoundBehind opening past history core → KeepsCore core new → IsSoundWith new.state.tree new.caches → AreCached new → AreExported new
+pub flushed_behind : (opening : Opening) (past history : List Entry) (core new : Core) → IsSoundBehind opening past history core → KeepsCore core new → IsSoundWith new.state.tree new.caches → AreCached new → AreExported new
     → IsSoundBehind opening past history new
 flushed_behind opening past history core new behind keeps kept cached exported = record {
   sound = flushed_sound (record { opening = opening; history = past ++ history; core = core }) new behind.sound keeps kept cached exported;

@@ -1,5 +1,5 @@
 -- What is forgotten stays so at every step, and what is kept of it is set aside.
-use Rattle.cluster_core.proofs.Common.{Administers, Answer, AreCached, AreExported, AreRanks, AreSetAside, AreSettled, Arrive, ArrivesAt, BeginsAt, Bool, Cancel, CancelsAt, CommitBegin, CommitDrop, CommitEnd, CommitTree, Core, Does, Drops, EndsJobOf, Entry, Err, Event, Evict, EvictsOne, Exports, Finish, FinishesIn, Freeze, FreezesIn, Grant, GrantsFirst, Import, ImportsExport, IsApplied, IsForwarded, IsLeft, IsSound, IsSoundBehind, IsTableOf, StandsBehind, IsTakenOut, IsUnseen, KeepsSettled, KeptState, places_of, Leaf, List, MatchBool, TreeMayRefuse, Merge, MergesLeaves, None, NotAuthority, Ok, Op, Option, Prep, PrepsIn, Purge, Purges, Rank, Refusal, Request, Result, SavesTree, Send, SendsExport, Serve, ServesInbox, ServesRequest, Some, Split, SplitsLeaf, Start, StartsIn, State, Table, Tree, [], ap, append_assoc, append-nil, arith, drop, entry_of, false, first_waiting, inl, inr, length, length-append, list_any, nat_lt, told_nothing, refl, shown, subst, sym, take, told_job, true, waiting_at, with_entry, with_waiting, ℕ, ◌++◌, ◌+◌, ◌-◌, ◌<◌, ◌≤◌, ◌∙◌, ◌∷◌, ◌≡◌, ◌⊎◌}
+use Rattle.cluster_core.proofs.Common.{Administers, Answer, AreCached, AreExported, AreRanks, AreSetAside, AreSettled, Arrive, ArrivesAt, BeginsAt, Bool, Cancel, CancelsAt, CommitBegin, CommitDrop, CommitEnd, CommitTree, Core, Does, Drops, EndsJobOf, Entry, Err, Event, Evict, EvictsOne, Exports, Finish, FinishesIn, Freeze, FreezesIn, Grant, GrantsFirst, Import, ImportsExport, IsApplied, IsForwarded, IsLeft, IsSound, IsSoundBehind, IsTableOf, Opening, StandsBehind, IsTakenOut, IsUnseen, KeepsSettled, KeptState, places_of, Leaf, List, MatchBool, TreeMayRefuse, Merge, MergesLeaves, None, NotAuthority, Ok, Op, Option, Prep, PrepsIn, Purge, Purges, Rank, Refusal, Request, Result, SavesTree, Send, SendsExport, Serve, ServesInbox, ServesRequest, Some, Split, SplitsLeaf, Start, StartsIn, State, Table, Tree, [], ap, append_assoc, append-nil, arith, drop, entry_of, false, first_waiting, inl, inr, length, length-append, list_any, nat_lt, told_nothing, refl, shown, subst, sym, take, told_job, true, waiting_at, with_entry, with_waiting, ℕ, ◌++◌, ◌+◌, ◌-◌, ◌<◌, ◌≤◌, ◌∙◌, ◌∷◌, ◌≡◌, ◌⊎◌}
 use Rattle.mds_types.specs.History.{after, IsKeptAt, IsLegal, IsTrimmed, is_pair, mark}
 use Rattle.mds_types.specs.declared.ids.Rank.{Rank as RankNumber}
 use Rattle.sessions.proofs.AsideLaws.{aside_push, forgot_all}
@@ -13,7 +13,7 @@ use Rattle.std.specs.List.{slice_index_or}
 use Rattle.std.proofs.Math.Seq.{get_or-append-add}
 
 -- the whole history has as many entries as there ever were
-pub places_behind : (opening : Tree) (past : List Entry) (book : KeptState) → StandsBehind opening past book → length (past ++ book.history) ≡ places_of book
+pub places_behind : (opening : Opening) (past : List Entry) (book : KeptState) → StandsBehind opening past book → length (past ++ book.history) ≡ places_of book
 places_behind opening past book goes = length-append past book.history ∙ ap (λ n. n + length book.history) goes.behind.aside.before
 
 -- ---- a step
@@ -152,7 +152,7 @@ keeps_whole before after may gone now count (inr (same, not, entry)) = inr (
 -- ---- a beginning is forgotten
 
 -- other sessions, that are those of the history
-sound_with : (opening : Tree) (history : List Entry) (core : Core) (sessions : Table) → IsTableOf history sessions → IsSound opening history core → IsSound opening history (with_sessions core sessions)
+sound_with : (opening : Opening) (history : List Entry) (core : Core) (sessions : Table) → IsTableOf history sessions → IsSound opening history core → IsSound opening history (with_sessions core sessions)
 sound_with opening history core sessions kept sound = record {
   legal = sound.legal;
   replayed = sound.replayed;
@@ -169,7 +169,7 @@ pub settled_with : (core : Core) (sessions : Table) (ranks : List RankNumber) �
 settled_with core sessions ranks settled rank has leaf to away = settled rank has leaf to (record { live = away.live; mine = away.mine; place = away.place; pin = away.pin; other = away.other; there = away.there })
 
 -- the first entries are
-pub forgets : (opening : Tree) (past history : List Entry) (core : Core) (n : ℕ) → IsSoundBehind opening past history core
+pub forgets : (opening : Opening) (past history : List Entry) (core : Core) (n : ℕ) → IsSoundBehind opening past history core
     → IsSoundBehind opening (past ++ take n history) (drop n history) (with_sessions core (forget_all core.state.sessions (take n history)))
 forgets opening past history core n behind =
     let parts : take n history ++ drop n history ≡ history = take-append-drop n history in
@@ -185,19 +185,19 @@ forgets opening past history core n behind =
     }
 
 -- so is a book's history, with the tree that it opened with
-pub book_forgets : (opening : Tree) (past : List Entry) (book : KeptState) (kept : Option Tree) (n : ℕ) → IfSome kept (λ tree. tree ≡ opening) → StandsBehind opening past book
+pub book_forgets : (opening : Opening) (past : List Entry) (book : KeptState) (kept : Option Tree) (n : ℕ) → IfSome kept (λ tree. tree ≡ opening.tree) → StandsBehind opening past book
     → StandsBehind opening (past ++ take n book.history) (record { opening = kept; history = drop n book.history; core = with_sessions book.core (forget_all book.core.state.sessions (take n book.history)) })
 book_forgets opening past book kept n opened goes = record { opened = opened; behind = forgets opening past book.history book.core n goes.behind }
 
 -- where entries went the tree that the book opened with isn't kept any more
-pub still_opened : (opening : Tree) (old new : Option Tree) (n : ℕ) → (n ≡ 0 → new ≡ old) → (0 < n → new ≡ None) → IfSome old (λ tree. tree ≡ opening) → IfSome new (λ tree. tree ≡ opening)
-still_opened opening old new zero stays gone opened = subst (λ (o : Option Tree). IfSome o (λ tree. tree ≡ opening)) (sym (stays refl)) opened
-still_opened opening old new (suc n) stays gone opened = subst (λ (o : Option Tree). IfSome o (λ tree. tree ≡ opening)) (sym (gone (omega arith))) tt
+pub still_opened : (opening : Opening) (old new : Option Tree) (n : ℕ) → (n ≡ 0 → new ≡ old) → (0 < n → new ≡ None) → IfSome old (λ tree. tree ≡ opening.tree) → IfSome new (λ tree. tree ≡ opening.tree)
+still_opened opening old new zero stays gone opened = subst (λ (o : Option Tree). IfSome o (λ tree. tree ≡ opening.tree)) (sym (stays refl)) opened
+still_opened opening old new (suc n) stays gone opened = subst (λ (o : Option Tree). IfSome o (λ tree. tree ≡ opening.tree)) (sym (gone (omega arith))) tt
 
 -- ---- in words of histories
 
-pub one_history : (opening : Tree) (past : List Entry) (book : KeptState) → StandsBehind opening past book
-    → IsLegal book.core.state.tree.limit opening (past ++ book.history) × (shown book.core.state ≡ after book.core.state.tree.limit opening (past ++ book.history))
+pub one_history : (opening : Opening) (past : List Entry) (book : KeptState) → StandsBehind opening past book
+    → IsLegalFrom book.core.state.tree.limit opening (past ++ book.history) × (shown book.core.state ≡ after_from book.core.state.tree.limit opening (past ++ book.history))
 one_history opening past book goes = (goes.behind.sound.legal, goes.behind.sound.replayed)
 
 pub none_is_new : (history : List Entry) (place oldest : ℕ) (e : Entry) → place < length history → e ≡ slice_index_or history place e

@@ -1,5 +1,5 @@
 -- A step leaves the object of each fragment for which a job stands before and after it.
-use Rattle.cluster_core.proofs.Common.{Administers, Answer, Arrive, ArrivesAt, BeginsAt, Bool, Cancel, CancelsAt, Change, CommitBegin, CommitDrop, CommitEnd, CommitTree, Core, Does, Drops, EndsJobOf, Entry, Err, Event, Evict, EvictsOne, Exports, Finish, FinishesIn, Freeze, FreezesIn, Grant, GrantsFirst, Import, ImportsExport, IsSound, Job, JobsKeepObjects, JobsTakeWhatIsShown, List, MakesPlanned, MatchBool, TreeMayRefuse, Merge, MergesLeaves, None, NotAuthority, Objects, ObjectsStay, Ok, Op, Option, Prep, PrepsIn, Purge, Purges, Rank, Refusal, Request, Result, SavesTree, Send, SendsExport, Serve, ServesInbox, ServesRequest, Some, Split, SplitsLeaf, Start, StartsIn, State, Tree, Unsaved, [], ap, begun_objects, dropped_objects, ended_object, false, first_name, first_waiting, inl, inr, length, made_objects, nat_lt, told_nothing, object_of, purged_object, refl, regrouped_objects, same_state, saved_object, shown_at, sym, told_job, true, waiting_at, ℕ, ◌∷◌, ◌≡◌}
+use Rattle.cluster_core.proofs.Common.{Administers, Answer, Arrive, ArrivesAt, BeginsAt, Bool, Cancel, CancelsAt, Change, CommitBegin, CommitDrop, CommitEnd, CommitTree, Core, Does, Drops, EndsJobOf, Entry, Err, Event, Evict, EvictsOne, Exports, Finish, FinishesIn, Freeze, FreezesIn, Grant, GrantsFirst, Import, ImportsExport, IsSound, Job, JobsKeepObjects, JobsTakeWhatIsShown, List, MakesPlanned, MatchBool, Opening, TreeMayRefuse, Merge, MergesLeaves, None, NotAuthority, Objects, ObjectsStay, Ok, Op, Option, Prep, PrepsIn, Purge, Purges, Rank, Refusal, Request, Result, SavesTree, Send, SendsExport, Serve, ServesInbox, ServesRequest, Some, Split, SplitsLeaf, Start, StartsIn, State, Unsaved, [], ap, begun_objects, dropped_objects, ended_object, false, first_name, first_waiting, inl, inr, length, made_objects, nat_lt, told_nothing, object_of, purged_object, refl, regrouped_objects, same_state, saved_object, shown_at, sym, told_job, true, waiting_at, ℕ, ◌∷◌, ◌≡◌}
 use Rattle.std.specs.FinMap as map
 use Rattle.dentry_cache.specs.Cache.{Leaf}
 use Rattle.mdcache.specs.Shown.{names_of}
@@ -40,7 +40,7 @@ module _ (old new : State) (past now : List Entry) where
 
 -- ---- a fragment for which a job stands before and after
 
-module _ (opening : Tree) (past now : List Entry) (old new : Core) (sound : IsSound opening past old) (leaf : Leaf) (job : Job) (stood : map.get old.state.tree.jobs leaf ≡ Some job) (stands : map.get new.state.tree.jobs leaf ≡ Some job) where
+module _ (opening : Opening) (past now : List Entry) (old new : Core) (sound : IsSound opening past old) (leaf : Leaf) (job : Job) (stood : map.get old.state.tree.jobs leaf ≡ Some job) (stands : map.get new.state.tree.jobs leaf ≡ Some job) where
   abbrev Kept : Type 0
   Kept = object_of new.state.tree.objects leaf.0 leaf.1 ≡ object_of old.state.tree.objects leaf.0 leaf.1
 

@@ -32,6 +32,7 @@ pub mod MountedBook
 pub mod NewBook
 pub mod NoReplyLaws
 pub mod Offered
+pub mod OpeningLaws
 pub mod OneThreadLaws
 pub mod OwnLaws
 pub mod PinsLaws

@@ -1,5 +1,5 @@
 -- A cluster over a store as it is found is sound from the tree that it opens with.
-use Rattle.cluster_core.proofs.Common.{AreCaches, AreHeld, AreNumbers, AreTopRoots, CacheMap, Core, Covers, Dentry, Inode, IsFresh, IsIn, IsOfRank, IsOwned, IsSound, IsSupplied, IsSupply, List, Mounts, MountsCore, None, Objects, Roots, Some, State, Supply, Tree, [], ap, arith, core_of, dentry-total, dentry_cmp, first_number, get-empty, get_entry, get_or, inl, inr, length, length-replicate, map, no_supply, none_stand, refl, replicate, shown_in, slice_get, subst, suc, sym, table-none, top_of_none, whole_supplies, zero, ℕ, ◌+◌, ◌<◌, ◌∙◌, ◌∷◌, ◌≡◌, ◌≤◌, ◌⊎◌}
+use Rattle.cluster_core.proofs.Common.{AreCaches, AreHeld, AreNumbers, AreTopRoots, CacheMap, Core, Covers, Dentry, Inode, IsFresh, IsIn, IsOfRank, IsOwned, IsSound, IsSupplied, IsSupply, List, Mounts, MountsCore, None, Objects, Roots, Some, State, Supply, Tree, [], ap, arith, core_of, dentry-total, dentry_cmp, first_number, fresh, get-empty, get_entry, get_or, inl, inr, length, length-replicate, map, no_supply, none_stand, refl, replicate, shown_in, slice_get, subst, suc, sym, table-none, top_of_none, whole_supplies, zero, ℕ, ◌+◌, ◌<◌, ◌∙◌, ◌∷◌, ◌≡◌, ◌≤◌, ◌⊎◌}
 use Rattle.sessions.specs.Table.{no_table}
 use Rattle.std.specs.Prelude.{Contains}
 use Rattle.std.specs.FinMap as finmap
@@ -17,15 +17,16 @@ entry_numbered (e ∷ es) n (zero, below, is) = (e, inl refl, is)
 entry_numbered (e ∷ es) n (suc k, below, is) = let w = entry_numbered es n (k, omega (arith, below), is) in (w.0, inr w.1, w.2)
 
 -- of a rank's range only numbers below its next are used, where nothing was applied
-fresh_from : (opening : Tree) (s : Supply) → IsNext opening s → IsFresh opening [] s
-fresh_from opening s next n low high (inl one) = absurd (omega (arith, low, one))
-fresh_from opening s next n low high (inr (inl stands)) =
+fresh_from : (opening : Tree) (s : Supply) → IsNext opening s → IsFresh (fresh opening) [] s
+fresh_from opening s next n low high (inl (t, (k, below, is), more)) = absurd (omega (arith, below))
+fresh_from opening s next n low high (inr (inl one)) = absurd (omega (arith, low, one))
+fresh_from opening s next n low high (inr (inr (inl stands))) =
     let w = entry_numbered (finmap.entries opening) n stands in
     let is = w.2 in
     let of : IsOfRank opening s.rank w.0.0 w.0.1 = record { stands = get_entry dentry-total opening w.0 w.1; from = omega (arith, low, is); before = omega (arith, high, is) } in
     let above = next.above w.0.0 w.0.1 of in
     omega (arith, above, is)
-fresh_from opening s next n low high (inr (inr (k, x, below, is, took))) = absurd (omega (arith, below))
+fresh_from opening s next n low high (inr (inr (inr (k, x, below, is, took)))) = absurd (omega (arith, below))
 
 -- the next number is one of the rank's range or its end
 supply_from : (opening : Tree) (s : Supply) → s.rank < 16 → IsNext opening s → IsSupply s
@@ -43,13 +44,13 @@ found_at [] k below = absurd (omega (arith, below))
 found_at (x ∷ xs) zero below = (x, refl, refl)
 found_at (x ∷ xs) (suc k) below = found_at xs k (omega (arith, below))
 
-supplied_from : (opening : Tree) (ranks : ℕ) (ss : List Supply) → ranks ≤ 16 → AreNumbers opening ranks ss → (rank : ℕ) → rank < length ss → IsSupplied opening [] rank (get_or ss rank no_supply)
+supplied_from : (opening : Tree) (ranks : ℕ) (ss : List Supply) → ranks ≤ 16 → AreNumbers opening ranks ss → (rank : ℕ) → rank < length ss → IsSupplied (fresh opening) [] rank (get_or ss rank no_supply)
 supplied_from opening ranks ss most a rank below =
     let at = found_at ss rank below in
     let own = (a.nexts rank at.0 at.1).0 in
     let next = (a.nexts rank at.0 at.1).1 in
     let count = a.count in
-    subst (IsSupplied opening [] rank) (sym at.2) (record { supply = supply_from opening at.0 (omega (arith, own, below, count, most)) next; own = own; fresh = fresh_from opening at.0 next })
+    subst (IsSupplied (fresh opening) [] rank) (sym at.2) (record { supply = supply_from opening at.0 (omega (arith, own, below, count, most)) next; own = own; fresh = fresh_from opening at.0 next })
 
 -- beside an empty tree they are all of each range
 whole_from : (first : ℕ) (ss : List Supply) (ranks : ℕ) → length ss ≡ ranks → ((k : ℕ) (s : Supply) → slice_get ss k ≡ Some s → (s.rank ≡ first + k) × (s.next ≡ first_number s.rank)) → ss ≡ whole_supplies first ranks
@@ -120,9 +121,9 @@ module _ (limit : ℕ) (objects : Objects) (ranks places : ℕ) (t : TreeCore) (
       go (inl (none, new)) = ap (λ (cs : CacheMap). length cs.used) new.caches ∙ new_count ranks places
       go (inr (some, m)) = ap (λ (cs : CacheMap). length cs.used) m.caches ∙ length-replicate ranks []
 
-  pub mounted_sound : 1 ≤ ranks → ranks ≤ 16 → IsOwned t roots → AreCaches t.caches → IsSound opening [] core
+  pub mounted_sound : 1 ≤ ranks → ranks ≤ 16 → IsOwned t roots → AreCaches t.caches → IsSound (fresh opening) [] core
   mounted_sound some most owned caches = record {
-    legal = λ k e below. absurd (omega (arith, below));
+    legal = record { begins = omega arith; next = λ k e from below. absurd (omega (arith, below)) };
     replayed = sym opens;
     tree = record { sound = owned.sound.sound; begun = owned.sound.begun; cached = owned.sound.cached };
     subtrees = owned.valid;

@@ -1,15 +1,16 @@
 -- A book begins sound.
-use Rattle.cluster_core.proofs.Common.{AreCached, AreExported, AreSupplied, Core, IsSoundWith, IsSound, IsSupplied, IsUsed, Leaf, None, Rank, Roots, Some, Standing, StandingExport, State, [], ap, arith, entries-empty, first_number, get-empty, get_or, inl, inr, leaf_cmp, length, length-replicate, length-set, map, new_are_roots, new_caches, new_state, new_tree, no_caches, no_supply, none_stand, numbers, order, refl, replicate, root_leaf, shown, subst, suc, sym, table-none, whole_supplies, zero, ℕ, ◌+◌, ◌<◌, ◌^◌, ◌∙◌, ◌≡◌, ◌≤◌}
+use Rattle.cluster_core.proofs.Common.{AreCached, AreExported, AreSupplied, Core, IsSoundWith, IsSound, IsSupplied, IsUsedFrom, Leaf, None, Rank, Roots, Some, Standing, StandingExport, State, [], ap, arith, entries-empty, first_number, fresh, get-empty, get_or, inl, inr, leaf_cmp, length, length-replicate, length-set, map, new_are_roots, new_caches, new_state, new_tree, no_caches, no_supply, none_stand, numbers, order, refl, replicate, root_leaf, shown, subst, suc, sym, table-none, whole_supplies, zero, ℕ, ◌+◌, ◌<◌, ◌^◌, ◌∙◌, ◌≡◌, ◌≤◌}
 use Rattle.std.specs.FinMap as finmap
 use Rattle.dentry_cache.specs.CacheMap.{first}
 
 -- no number of a rank is used in an empty book
-unused-empty : (n : ℕ) → 2 ^ 40 ≤ n → IsUsed finmap.empty [] n → ⊥
-unused-empty n low (inl one) = omega arith
-unused-empty n low (inr (inl (k, below, is))) =
+unused-empty : (n : ℕ) → 2 ^ 40 ≤ n → IsUsedFrom (fresh finmap.empty) [] n → ⊥
+unused-empty n low (inl (s, (k, below, is), more)) = omega (arith, below)
+unused-empty n low (inr (inl one)) = omega arith
+unused-empty n low (inr (inr (inl (k, below, is)))) =
     let none : length (numbers finmap.empty) ≡ 0 = ap (λ es. length (map (λ (e : _). e.1.ino.0) es)) entries-empty in
     omega arith
-unused-empty n low (inr (inr (k, x, below, is, took))) = omega arith
+unused-empty n low (inr (inr (inr (k, x, below, is, took)))) = omega arith
 
 -- ---- supplies
 
@@ -24,10 +25,10 @@ found_at first (suc more) (suc k) below =
     let same : suc first + k ≡ first + suc k = omega arith in
     found_at (suc first) more k (omega arith) ∙ ap (λ (r : ℕ). record { rank = r; next = first_number r }) same
 
-all_supplied : (ranks : ℕ) → ranks ≤ 16 → AreSupplied finmap.empty [] (whole_supplies 0 ranks)
+all_supplied : (ranks : ℕ) → ranks ≤ 16 → AreSupplied (fresh finmap.empty) [] (whole_supplies 0 ranks)
 all_supplied ranks most k below =
     let there : k < ranks = omega (arith, below, as_many 0 ranks) in
-    subst (IsSupplied finmap.empty [] k) (sym (found_at 0 ranks k there)) (record {
+    subst (IsSupplied (fresh finmap.empty) [] k) (sym (found_at 0 ranks k there)) (record {
       supply = record { ranked = omega (arith, there, most); started = omega arith; ended = omega arith };
       own = omega arith;
       fresh = λ n low high used. absurd (unused-empty n (omega (arith, low)) used);
@@ -46,9 +47,9 @@ stand_alone core none ranked = record {
     gone root export stands = let clash : None ≡ Some export = sym (get-empty leaf_cmp root) ∙ ap (λ (e : Standing). finmap.get e root) (sym none) ∙ stands in cc
 
 -- a new book is sound
-pub sound-empty : (core : Core) (ranks limit : ℕ) → 1 ≤ ranks → ranks ≤ 16 → core.state ≡ new_state ranks limit → IsSoundWith core.state.tree core.caches → AreCached core → length core.caches.used ≡ ranks → IsSound finmap.empty [] core
+pub sound-empty : (core : Core) (ranks limit : ℕ) → 1 ≤ ranks → ranks ≤ 16 → core.state ≡ new_state ranks limit → IsSoundWith core.state.tree core.caches → AreCached core → length core.caches.used ≡ ranks → IsSound (fresh finmap.empty) [] core
 sound-empty core ranks limit some most is tree cached count = record {
-  legal = λ k e below. absurd (omega arith);
+  legal = record { begins = omega arith; next = λ k e from below. absurd (omega arith) };
   replayed = ap shown is ∙ new_tree limit;
   tree = tree;
   subtrees = rw is (new_are_roots limit);

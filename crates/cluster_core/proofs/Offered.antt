@@ -1,12 +1,13 @@
 -- The number that a rank offers next is unused in the tree that a sound cluster shows, and in a rank's range.
-use Rattle.cluster_core.proofs.Common.{AreMastersThere, AreRanks, Bool, Core, Entry, Ino, IsOffered, IsRankNumber, IsSound, IsSupplied, IsUnused, List, MatchBool, None, Option, Rank, Rules, Some, Supply, Tree, ap, arith, cond, dentry_of, destination_of, end_number, false, is_directory, length, ltb-true, main_leaf, nat_lt, nat_tests, numbers_used, offer, refl, shown, supply_of, sym, true, ◌<◌, ◌∙◌, ◌≡◌}
+use Rattle.cluster_core.proofs.Common.{AreMastersThere, AreRanks, Bool, Core, Entry, Ino, IsOffered, IsRankNumber, IsSound, IsSupplied, IsUnused, List, MatchBool, None, Opening, Option, Rank, Rules, Some, Supply, ap, arith, cond, dentry_of, destination_of, end_number, false, is_directory, length, ltb-true, main_leaf, nat_lt, nat_tests, numbers_used, offer, refl, shown, supply_of, sym, true, ◌<◌, ◌∙◌, ◌≡◌}
 use Rattle.std.specs.FinMap as map
+use Rattle.cluster_core.proofs.OpeningLaws.{numbers_from}
 
 -- a rank that is there has its supply
 pub there_of : (core : Core) → AreRanks core → (rank : Rank) → nat_lt rank.0 (length core.state.inboxes) ≡ true → rank.0 < length core.state.numbers
 there_of core ranks rank here = omega (arith, ltb-true rank.0 (length core.state.inboxes) here, ranks.inboxes)
 
-module _ (opening : Tree) (past : List Entry) (core : Core) (sound : IsSound opening past core) (rank : Rank) (there : rank.0 < length core.state.numbers) where
+module _ (opening : Opening) (past : List Entry) (core : Core) (sound : IsSound opening past core) (rank : Rank) (there : rank.0 < length core.state.numbers) where
   abbrev mine : Supply
   mine = supply_of core.state rank
 
@@ -17,7 +18,7 @@ module _ (opening : Tree) (past : List Entry) (core : Core) (sound : IsSound ope
   next_unused below = record {
     not_root = λ one. omega (arith, one, has.supply.started);
     not_there = λ d name inode stands same.
-        let used = numbers_used core.state.tree.limit opening past sound.legal (dentry_of d name) inode (ap (λ t. map.get t (dentry_of d name)) (sym sound.replayed) ∙ stands) in
+        let used = numbers_from core.state.tree.limit opening past sound.legal (dentry_of d name) inode (ap (λ t. map.get t (dentry_of d name)) (sym sound.replayed) ∙ stands) in
         let low : _ = has.fresh inode.ino.0 (omega (arith, same, has.supply.started)) (omega (arith, same, below)) used in
         omega (arith, same, low);
   }

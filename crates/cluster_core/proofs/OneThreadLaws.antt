@@ -178,8 +178,8 @@ as_one start end sent told sound h = record {
     more = h.more;
     grows = h.grows;
     legal =
-        subst (λ (n : ℕ). IsLegal n start.opening end.history) h.limit
-        (subst (λ (t : Tree). IsLegal end.core.state.tree.limit t end.history) h.opening sound.legal);
+        subst (λ (n : ℕ). IsLegalFrom n start.opening end.history) h.limit
+        (subst (λ (o : Opening). IsLegalFrom end.core.state.tree.limit o end.history) h.opening sound.legal);
     asked = h.asked;
     asked_for = h.asked_for;
     agree = agree_of end.history start.history told h.held h.in_order;
@@ -246,9 +246,9 @@ run_throughout start end events results ran sound n =
 
 -- what a sound book shows, by the limit and the opening tree that it had before
 pub shows_after : (old start end : BookState) → start ≡ old → (result : Result Answer Refusal) (event : Event) → Steps start.core end.core start.history end.history result event → end.opening ≡ start.opening → IsSoundBook end
-    → shown end.core.state ≡ after old.core.state.tree.limit old.opening end.history
+    → shown end.core.state ≡ after_from old.core.state.tree.limit old.opening end.history
 shows_after old start end same result event stepped opening sound =
     let limit : end.core.state.tree.limit ≡ start.core.state.tree.limit = limit_stays start.history end.history start.core end.core result event stepped.does in
-    subst (λ (k : BookState). shown end.core.state ≡ after k.core.state.tree.limit k.opening end.history) same
-    (subst (λ (n : ℕ). shown end.core.state ≡ after n start.opening end.history) limit
-    (subst (λ (t : Tree). shown end.core.state ≡ after end.core.state.tree.limit t end.history) opening sound.replayed))
+    subst (λ (k : BookState). shown end.core.state ≡ after_from k.core.state.tree.limit k.opening end.history) same
+    (subst (λ (n : ℕ). shown end.core.state ≡ after_from n start.opening end.history) limit
+    (subst (λ (o : Opening). shown end.core.state ≡ after_from end.core.state.tree.limit o end.history) opening sound.replayed))

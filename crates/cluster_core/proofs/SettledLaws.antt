@@ -1,5 +1,5 @@
 -- A rank of which nothing is pinned away stays so in each calm step; and one that would start no export where none stands is such a rank.
-use Rattle.cluster_core.proofs.Common.{Answer, AreSettled, Attributed, Bool, Change, Contains, Core, Entry, Event, FollowPlanned, HasAuthority, HasPin, Ino, Inode, IsAway, IsCalm, IsCalmIn, IsCalmOp, IsChangeIn, IsLive, IsOffered, IsOneOf, IsProposal, IsRankNumber, HasSettled, IsSome, IsSound, IsUnused, KeepsCore, KeepsSettled, Leaf, List, Lists, Looks, LoseDirectory, Makes, Moves, None, OfPin, Option, Pinned, Rank, Refusal, Removes, Result, Roots, Sets, SettleBy, Shape, Some, Spot, Standing, Start, State, Steps, Tree, Unlinks, WouldNot, [], ap, arith, false, get-empty, inl, inr, is_known, is_some, leaf_cmp, length, number_or, offer, outcome_of, refl, same_or_apart, shape, shown, sight, subst, supply_of, sym, true, ◌++◌, ◌<◌, ◌∙◌, ◌∷◌, ◌≡◌, ◌⊎◌}
+use Rattle.cluster_core.proofs.Common.{Answer, AreSettled, Attributed, Bool, Change, Contains, Core, Entry, Event, FollowPlanned, HasAuthority, HasPin, Ino, Inode, IsAway, IsCalm, IsCalmIn, IsCalmOp, IsChangeIn, IsLive, IsOffered, IsOneOf, IsProposal, IsRankNumber, HasSettled, IsSome, IsSound, IsUnused, KeepsCore, KeepsSettled, Leaf, List, Lists, Looks, LoseDirectory, Makes, Moves, None, OfPin, Opening, Option, Pinned, Rank, Refusal, Removes, Result, Roots, Sets, SettleBy, Shape, Some, Spot, Standing, Start, State, Steps, Tree, Unlinks, WouldNot, [], ap, arith, false, get-empty, inl, inr, is_known, is_some, leaf_cmp, length, number_or, offer, outcome_of, refl, same_or_apart, shape, shown, sight, subst, supply_of, sym, true, ◌++◌, ◌<◌, ◌∙◌, ◌∷◌, ◌≡◌, ◌⊎◌}
 use Rattle.std.specs.FinMap as map
 use Rattle.mdcache.specs.State.{State as TreeState}
 use Rattle.cluster_core.proofs.AdminLaws.{one_of_all}
@@ -57,7 +57,7 @@ pub flushed_settled : (old new : Core) (known : List Rank) → KeepsCore old new
 flushed_settled old new known kept settled rank has leaf to away =
     settled rank has leaf to (same_away old.state new.state (ap (λ (s : State). length s.numbers) kept.left) (ap (λ (s : State). tables s.tree) kept.left, ap (λ (s : State). s.roots) kept.left) rank leaf to away)
 
-module _ (opening : Tree) (past now : List Entry) (old new : Core) (sound : IsSound opening past old) (still : IsSound opening now new) where
+module _ (opening : Opening) (past now : List Entry) (old new : Core) (sound : IsSound opening past old) (still : IsSound opening now new) where
   ranks_stay : length new.caches.used ≡ length old.caches.used → length new.state.numbers ≡ length old.state.numbers
   ranks_stay same = sym still.ranks.caches ∙ same ∙ sound.ranks.caches
 

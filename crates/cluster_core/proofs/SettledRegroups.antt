@@ -1,12 +1,12 @@
 -- What is pinned away once a leaf was split, or leaves were merged, was pinned away before, it or one of the leaves that it came of.
-use Rattle.cluster_core.proofs.Common.{Core, Covers, DirPins, Entry, Fragment, HasAuthority, HasLeaf, HasPin, HaveOneAuthority, Homes, Ino, IsAway, IsChild, IsLive, IsMergedInto, IsRootMerge, IsRootSplit, IsSome, IsSound, IsSplitInto, KeepsAuthorities, Leaf, List, None, Option, Rank, Rules, Some, Tree, ap, children_have, elsewhere_out, false, here_out, inl, inr, inside_at, is_inside, is_some, leaves_of, length, lies_inside, one_authority, or_whole, refl, same_or_apart, some_authority, some_inside, subst, sym, takes_over, true, ℕ, ◌<◌, ◌∙◌, ◌≡◌, ◌⊎◌}
+use Rattle.cluster_core.proofs.Common.{Core, Covers, DirPins, Entry, Fragment, HasAuthority, HasLeaf, HasPin, HaveOneAuthority, Homes, Ino, IsAway, IsChild, IsLive, IsMergedInto, IsRootMerge, IsRootSplit, IsSome, IsSound, IsSplitInto, KeepsAuthorities, Leaf, List, None, Opening, Option, Rank, Rules, Some, ap, children_have, elsewhere_out, false, here_out, inl, inr, inside_at, is_inside, is_some, leaves_of, length, lies_inside, one_authority, or_whole, refl, same_or_apart, some_authority, some_inside, subst, sym, takes_over, true, ℕ, ◌<◌, ◌∙◌, ◌≡◌, ◌⊎◌}
 use Rattle.std.specs.FinMap as map
 use Rattle.sorted_map.proofs.NatKeys.{get_beside, get_put}
 use Rattle.mds_types.proofs.LeafLaws.{same_or_apart as same_leaf_or_apart}
 use Rattle.subtree_map.proofs.Merged.{is_within}
 use Rattle.mdcache.specs.State.{State as TreeState}
 
-module _ (opening : Tree) (past : List Entry) (old new : Core) (sound : IsSound opening past old) (ranks : length new.state.numbers ≡ length old.state.numbers)
+module _ (opening : Opening) (past : List Entry) (old new : Core) (sound : IsSound opening past old) (ranks : length new.state.numbers ≡ length old.state.numbers)
     (authorities : KeepsAuthorities old.state.tree new.state.tree old.state.roots new.state.roots)
     (rank : Rank) (leaf : Leaf) (to : Rank) (away : IsAway new.state rank leaf to) where
   abbrev Place : Leaf → Type 0

@@ -1,9 +1,9 @@
 -- A book stays sound at every step.
-use Rattle.cluster_core.proofs.Common.{Administers, Answer, AreCached, AreExported, AreRoots, Arrive, ArrivesAt, BeginsAt, Bool, Cancel, CancelsAt, CommitBegin, CommitDrop, CommitEnd, CommitTree, Core, Does, Drops, EndsJobOf, Entry, Err, Event, Evict, EvictsOne, Exports, Finish, FinishesIn, Freeze, FreezesIn, Grant, GrantsFirst, Import, ImportsExport, Inboxes, IsForwarded, IsSoundWith, IsLeft, IsSound, IsTakenOut, IsUnseen, Leaf, List, MatchBool, TreeMayRefuse, Merge, MergesLeaves, None, NotAuthority, Ok, Op, Option, Pin, Prep, PrepsIn, Purge, Purges, Rank, Refusal, Request, Result, SavesTree, Send, SendsExport, Serve, ServesInbox, ServesRequest, Some, Split, SplitsLeaf, Start, StartsIn, State, Tree, [], ap, false, first_waiting, inl, inr, length, length-set, nat_lt, told_nothing, refl, shown, told_job, true, waiting_at, with_waiting, ℕ, ◌++◌, ◌<◌, ◌∙◌, ◌∷◌, ◌≡◌}
+use Rattle.cluster_core.proofs.Common.{Administers, Answer, AreCached, AreExported, AreRoots, Arrive, ArrivesAt, BeginsAt, Bool, Cancel, CancelsAt, CommitBegin, CommitDrop, CommitEnd, CommitTree, Core, Does, Drops, EndsJobOf, Entry, Err, Event, Evict, EvictsOne, Exports, Finish, FinishesIn, Freeze, FreezesIn, Grant, GrantsFirst, Import, ImportsExport, Inboxes, IsForwarded, IsSoundWith, IsLeft, IsSound, IsTakenOut, IsUnseen, Leaf, List, MatchBool, Opening, TreeMayRefuse, Merge, MergesLeaves, None, NotAuthority, Ok, Op, Option, Pin, Prep, PrepsIn, Purge, Purges, Rank, Refusal, Request, Result, SavesTree, Send, SendsExport, Serve, ServesInbox, ServesRequest, Some, Split, SplitsLeaf, Start, StartsIn, State, [], ap, false, first_waiting, inl, inr, length, length-set, nat_lt, told_nothing, refl, shown, told_job, true, waiting_at, with_waiting, ℕ, ◌++◌, ◌<◌, ◌∙◌, ◌∷◌, ◌≡◌}
 use Rattle.cluster_core.proofs.Applied.{sound-applied}
 use Rattle.cluster_core.proofs.Offered.{there_of}
 
-module _ (opening : Tree) (past now : List Entry) (old new : Core) (sound : IsSound opening past old) (tree : IsSoundWith new.state.tree new.caches) (cached : AreCached new) (exported : AreExported new) (count : length new.caches.used ≡ length old.caches.used)
+module _ (opening : Opening) (past now : List Entry) (old new : Core) (sound : IsSound opening past old) (tree : IsSoundWith new.state.tree new.caches) (cached : AreCached new) (exported : AreExported new) (count : length new.caches.used ≡ length old.caches.used)
     (valid : AreRoots new.state.tree new.state.roots) (limit : new.state.tree.limit ≡ old.state.tree.limit) where
   -- the same history, and the same tree, numbers and sessions: what the inboxes have has no part in it
   pub sound-same : now ≡ past → shown new.state ≡ shown old.state → new.state.numbers ≡ old.state.numbers → length new.state.inboxes ≡ length old.state.inboxes → new.state.sessions ≡ old.state.sessions → IsSound opening now new

@@ -3,7 +3,7 @@ use Rattle.std.specs.Prelude.{◌≡◌, List, Some, Result}
 use Rattle.std.specs.FinMap as map
 use Rattle.mds_types.specs.declared.entries.Entry.{Entry}
 use Rattle.mds_types.specs.declared.refusals.Refusal.{Refusal}
-use Rattle.mds_types.specs.Tree.{Tree}
+use Rattle.cluster_core.specs.Opening.{Opening}
 use Rattle.cached_frag.specs.declared.jobs.Job.{Job}
 use Rattle.dentry_cache.specs.Cache.{Leaf, Unsaved}
 use Rattle.dentry_cache.specs.Loading.{object_of}
@@ -18,7 +18,7 @@ use Rattle.cluster_core.specs.Steps.{Steps}
 -- no step of a sound book touches the object of a fragment for which a job stands before and after it
 abbrev pub JobsKeepObjects : Type 0
 JobsKeepObjects =
-    (opening : Tree) (past now : List Entry) (old new : Core) (result : Result Answer Refusal) (event : Event)
+    (opening : Opening) (past now : List Entry) (old new : Core) (result : Result Answer Refusal) (event : Event)
     → IsSound opening past old → Steps old new past now result event
     → (leaf : Leaf) (job : Job) → map.get old.state.tree.jobs leaf ≡ Some job
     → map.get new.state.tree.jobs leaf ≡ Some job

@@ -2,8 +2,8 @@
 use Rattle.std.specs.Prelude.{◌≡◌, ℕ, ◌<◌, ◌≤◌, ◌-◌, ◌⊎◌, ◌++◌, List, None, drop, length, take}
 use Rattle.std.specs.List.{slice_index_or}
 use Rattle.mds_types.specs.declared.entries.Entry.{Entry}
-use Rattle.mds_types.specs.History.{after, IsKeptAt, IsLegal, IsTrimmed}
-use Rattle.mds_types.specs.Tree.{Tree}
+use Rattle.mds_types.specs.History.{IsKeptAt, IsTrimmed}
+use Rattle.cluster_core.specs.Opening.{Opening, after_from, IsLegalFrom}
 use Rattle.sessions.specs.Aside.{StopsForgetting, forget_all}
 use Rattle.cluster_core.specs.Sound.{StandsBehind, IsSoundBehind}
 use Rattle.cluster_core.specs.State.{Core, KeptState, shown, with_sessions}
@@ -20,20 +20,20 @@ pub record Forgets (keep : ℕ) (old new : KeptState) : Type 0 where
   pub core : new.core ≡ with_sessions old.core (forget_all old.core.state.sessions (take count old.history))
   pub nothing : count ≡ 0 → new ≡ old
   pub opening : 0 < count → new.opening ≡ None
-  pub goes_on : (opening : Tree) (past : List Entry) → StandsBehind opening past old
+  pub goes_on : (opening : Opening) (past : List Entry) → StandsBehind opening past old
       → StandsBehind opening (past ++ take count old.history) new
 
 -- what is forgotten, put before what isn't, is one legal history, and what is shown is the tree after it
 abbrev pub AllIsOneHistory : Type 0
 AllIsOneHistory =
-    (opening : Tree) (past : List Entry) (book : KeptState) → StandsBehind opening past book
-    → IsLegal book.core.state.tree.limit opening (past ++ book.history)
-    × (shown book.core.state ≡ after book.core.state.tree.limit opening (past ++ book.history))
+    (opening : Opening) (past : List Entry) (book : KeptState) → StandsBehind opening past book
+    → IsLegalFrom book.core.state.tree.limit opening (past ++ book.history)
+    × (shown book.core.state ≡ after_from book.core.state.tree.limit opening (past ++ book.history))
 
 -- whatever beginning of it is forgotten, with its kept replies set aside
 abbrev pub ABeginningMayGo : Type 0
 ABeginningMayGo =
-    (opening : Tree) (past history : List Entry) (core : Core) (n : ℕ) → IsSoundBehind opening past history core
+    (opening : Opening) (past history : List Entry) (core : Core) (n : ℕ) → IsSoundBehind opening past history core
     → IsSoundBehind opening (past ++ take n history) (drop n history)
     (with_sessions core (forget_all core.state.sessions (take n history)))
 

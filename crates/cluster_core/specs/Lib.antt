@@ -15,6 +15,7 @@ pub mod Grants
 pub mod Master
 pub mod Mounted
 pub mod Offer
+pub mod Opening
 pub mod OneThread
 pub mod Pins
 pub mod Prepared

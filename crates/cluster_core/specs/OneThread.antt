@@ -7,8 +7,7 @@ use Rattle.mds_types.specs.declared.entries.Entry.{Entry}
 use Rattle.mds_types.specs.declared.refusals.Refusal.{Refusal}
 use Rattle.mds_types.specs.declared.replies.Reply.{Reply as Replied}
 use Rattle.mds_types.specs.declared.requests.Request.{Request}
-use Rattle.mds_types.specs.Tree.{Tree}
-use Rattle.mds_types.specs.History.{IsLegal}
+use Rattle.cluster_core.specs.Opening.{Opening, IsLegalFrom}
 use Rattle.cluster_core.specs.declared.events.Answer.{Answer}
 use Rattle.cluster_core.specs.declared.events.Answer.TheVariants.{Deferred, Forwarded, Job, Nothing, Reply, Sent}
 use Rattle.cluster_core.specs.declared.events.Event.{Event}
@@ -95,11 +94,11 @@ pub record Agree (history : List Entry) (from : ℕ) (receipts : List Receipt) :
 -- applied one after the other, each as it was sent; that history is legal from the opening tree; each reply that was
 -- handed out was asked for by one of those requests, and stands in the history at its place; and of the replies one
 -- marked first was handed out for each new place, and no other is marked so
-pub record IsOneThread (limit : ℕ) (opening : Tree) (past history : List Entry) (sent : List Request)
+pub record IsOneThread (limit : ℕ) (opening : Opening) (past history : List Entry) (sent : List Request)
     (told : List Receipt) : Type 0 where
   pub more : List Entry
   pub grows : history ≡ past ++ more
-  pub legal : IsLegal limit opening history
+  pub legal : IsLegalFrom limit opening history
   pub asked : AllByRecursion (IsSent sent) more
   pub asked_for : AllByRecursion (IsAskedFor sent) told
   pub agree : Agree history (length past) told
@@ -113,7 +112,7 @@ InOrder count (r ∷ rs) end =
 
 -- so it is at each moment of a run: when so many of its events had been, the replies to these were those of one thread
 -- that serves the requests which waited before the run, or had come by then. So none is applied before it is sent
-abbrev pub IsOneThreadThroughout : ℕ → Tree → (past history : List Entry) → (waited : List Request) → List Event
+abbrev pub IsOneThreadThroughout : ℕ → Opening → (past history : List Entry) → (waited : List Request) → List Event
     → List (Result Answer Refusal) → Type 0
 IsOneThreadThroughout limit opening past history waited events results =
     (n : ℕ) → IsOneThread limit opening past

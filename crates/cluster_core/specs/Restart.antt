@@ -1,7 +1,7 @@
 -- What is left of a book that wasn't opened again.
 use Rattle.std.specs.Prelude.{ℕ, List, Err}
 use Rattle.mds_types.specs.declared.entries.Entry.{Entry}
-use Rattle.mds_types.specs.Tree.{Tree}
+use Rattle.cluster_core.specs.Opening.{Opening}
 use Rattle.mds_types.specs.declared.refusals.Refusal.{Refusal}
 use Rattle.objstore.specs.Objects.{Objects}
 use Rattle.cold_store.specs.ColdTree.{IsColdTree}
@@ -16,7 +16,7 @@ use Rattle.cluster_core.specs.declared.restarting.NotRestarted.TheVariants.{Unfl
 -- the tree that was shown
 abbrev pub LosesNothing : {S : Type 0} → (objects : S → Objects) (faults : S → ℕ) → KeptState → NotRestarted S → Type 0
 LosesNothing objects faults old (Unflushed reason left) = Flushes old left (Err reason)
-    × ((opening : Tree) (past : List Entry) → StandsBehind opening past old → StandsBehind opening past left)
+    × ((opening : Opening) (past : List Entry) → StandsBehind opening past old → StandsBehind opening past left)
 LosesNothing objects faults old (Unmounted reason store) =
     IsColdTree (objects store) (shown old.core.state)
     × ((before : ℕ) × MayNotMount (objects store) before (faults store) reason)

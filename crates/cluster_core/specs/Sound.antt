@@ -3,8 +3,7 @@ use Rattle.std.specs.Prelude.{◌≡◌, ℕ, ◌<◌, ◌≤◌, ◌++◌, true
 use Rattle.std.specs.FinMap as map
 use Rattle.mds_types.specs.declared.entries.Entry.{Entry}
 use Rattle.mds_types.specs.declared.ids.Rank.{Rank}
-use Rattle.mds_types.specs.Tree.{Tree}
-use Rattle.mds_types.specs.History.{after, IsLegal, IsUsed}
+use Rattle.cluster_core.specs.Opening.{Opening, after_from, IsUsedFrom, IsLegalFrom}
 use Rattle.inode_table.specs.Numbers.{Supply, IsSupply, first_number, end_number}
 use Rattle.cached_frag.specs.declared.jobs.Job.{Job}
 use Rattle.dentry_cache.specs.Cache.{Leaf}
@@ -23,18 +22,18 @@ use Rattle.ranked_tree.specs.Held.{AreHeld}
 use Rattle.ranked_tree.specs.Subtrees.{AreRoots}
 
 -- of a rank's range, only numbers below its next are used
-abbrev pub IsFresh : Tree → List Entry → Supply → Type 0
+abbrev pub IsFresh : Opening → List Entry → Supply → Type 0
 IsFresh opening history s =
-    (n : ℕ) → first_number s.rank ≤ n → n < end_number s.rank → IsUsed opening history n → n < s.next
+    (n : ℕ) → first_number s.rank ≤ n → n < end_number s.rank → IsUsedFrom opening history n → n < s.next
 
 -- the supply of a rank is one of its own range, of which only numbers below the next are used
-pub record IsSupplied (opening : Tree) (history : List Entry) (rank : ℕ) (s : Supply) : Type 0 where
+pub record IsSupplied (opening : Opening) (history : List Entry) (rank : ℕ) (s : Supply) : Type 0 where
   pub supply : IsSupply s
   pub own : s.rank ≡ rank
   pub fresh : IsFresh opening history s
 
 -- each rank has its supply
-abbrev pub AreSupplied : Tree → List Entry → List Supply → Type 0
+abbrev pub AreSupplied : Opening → List Entry → List Supply → Type 0
 AreSupplied opening history numbers =
     (rank : ℕ) → rank < length numbers → IsSupplied opening history rank (get_or numbers rank no_supply)
 
@@ -77,9 +76,9 @@ pub record AreExported (core : Core) : Type 0 where
 -- cached fragment is a live leaf, tied to its object; each leaf of the root directory is a subtree root, and only
 -- leaves are; each rank caches what it holds; what the exports need has its place; no number is given twice, and the
 -- sessions are those of the history
-pub record IsSound (opening : Tree) (history : List Entry) (core : Core) : Type 0 where
-  pub legal : IsLegal core.state.tree.limit opening history
-  pub replayed : shown core.state ≡ after core.state.tree.limit opening history
+pub record IsSound (opening : Opening) (history : List Entry) (core : Core) : Type 0 where
+  pub legal : IsLegalFrom core.state.tree.limit opening history
+  pub replayed : shown core.state ≡ after_from core.state.tree.limit opening history
   pub tree : IsSoundWith core.state.tree core.caches
   pub subtrees : AreRoots core.state.tree core.state.roots
   pub cached : AreCached core
@@ -94,15 +93,15 @@ IsSoundBook book = IsSound book.opening book.history book.core
 
 -- a cluster with the entries that aren't forgotten goes on from this opening tree and this past, which is forgotten: it
 -- is sound with all entries, and what is kept of the past is set aside
-pub record IsSoundBehind (opening : Tree) (past history : List Entry) (core : Core) : Type 0 where
+pub record IsSoundBehind (opening : Opening) (past history : List Entry) (core : Core) : Type 0 where
   pub sound : IsSound opening (past ++ history) core
   pub aside : AreSetAside past history core.state.sessions
 
 -- so does a book, which needn't keep the opening tree
-pub record StandsBehind (opening : Tree) (past : List Entry) (book : KeptState) : Type 0 where
-  pub opened : IfSome book.opening (λ tree. tree ≡ opening)
+pub record StandsBehind (opening : Opening) (past : List Entry) (book : KeptState) : Type 0 where
+  pub opened : IfSome book.opening (λ tree. tree ≡ opening.tree)
   pub behind : IsSoundBehind opening past book.history book.core
 
 -- every book does, from some opening tree and some past
 abbrev pub IsSoundKept : KeptState → Type 0
-IsSoundKept book = (opening : Tree) × (past : List Entry) × StandsBehind opening past book
+IsSoundKept book = (opening : Opening) × (past : List Entry) × StandsBehind opening past book

@@ -18,6 +18,7 @@ use Rattle.mdcache.specs.Shown.{shown_tree}
 use Rattle.mdcache.specs.State.{State as TreeState}
 use Rattle.sessions.specs.Table.{Table, no_table}
 use Rattle.subtree_map.specs.Authority.{Roots}
+use Rattle.cluster_core.specs.Opening.{Opening}
 
 -- all that a refused step leaves as it was: the tree with its directories and their leaves, what of it isn't clean, the
 -- objects of the store, the commits that were begun, the purge list and the next numbers; the subtree roots with their
@@ -41,7 +42,7 @@ pub record Core : Type 0 where
 
 -- a whole book: a cluster, the history of all that it answered, and the tree that it opened with
 pub record BookState : Type 0 where
-  pub opening : Tree
+  pub opening : Opening
   pub history : List Entry
   pub core : Core
 
@@ -52,7 +53,7 @@ pub record KeptState : Type 0 where
   pub core : Core
 
 -- the whole book of which so much is kept, behind these entries
-abbrev pub whole_of : Tree → List Entry → KeptState → BookState
+abbrev pub whole_of : Opening → List Entry → KeptState → BookState
 whole_of opening past book = record { opening = opening; history = past ++ book.history; core = book.core }
 
 -- how many entries a book ever had: the place of the next one

@@ -2,18 +2,18 @@
 use Rattle.std.specs.Prelude.{◌≡◌, ℕ, List, []}
 use Rattle.mds_types.specs.declared.entries.Entry.{Entry}
 use Rattle.mds_types.specs.declared.requests.Request.{Request}
-use Rattle.mds_types.specs.Tree.{Tree}
+use Rattle.cluster_core.specs.Opening.{Opening}
 use Rattle.cluster_core.specs.declared.receipts.Receipt.{Receipt}
 use Rattle.cluster_core.specs.OneThread.{IsOneThread, first_places}
 
 -- where nothing was sent, nothing is applied and nothing told: no operation is invented
 abbrev pub OneThreadInventsNothing : Type 0
 OneThreadInventsNothing =
-    (limit : ℕ) (opening : Tree) (past history : List Entry) (told : List Receipt)
+    (limit : ℕ) (opening : Opening) (past history : List Entry) (told : List Receipt)
     → IsOneThread limit opening past history [] told → (history ≡ past) × (told ≡ [])
 
 -- where no reply is marked first, nothing was applied: none is applied in silence, and not all are called repeats
 abbrev pub OneThreadTellsAll : Type 0
 OneThreadTellsAll =
-    (limit : ℕ) (opening : Tree) (past history : List Entry) (sent : List Request) (told : List Receipt)
+    (limit : ℕ) (opening : Opening) (past history : List Entry) (sent : List Request) (told : List Receipt)
     → IsOneThread limit opening past history sent told → first_places told ≡ [] → history ≡ past

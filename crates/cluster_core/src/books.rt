@@ -2,9 +2,8 @@
 ghost use Rattle.std.specs.Prelude.{◌≡◌, ◌+◌, ◌≤◌, ◌++◌, [], List, Some, option_copied, Contains, IfOk, IfErr, OnOk};
 ghost use Rattle.std.specs.List.{AllByRecursion};
 ghost use Rattle.mds_types.specs.declared.entries.Entry.{Entry as Applied};
-ghost use Rattle.mds_types.specs.Tree.{Tree};
+ghost use Rattle.cluster_core.specs.Opening.{Opening, fresh, after_from};
 ghost use Rattle.std.specs.FinMap as map;
-ghost use Rattle.mds_types.specs.History.{after};
 ghost use Rattle.objstore.specs.Objects.{faults_in};
 ghost use Rattle.mdcache.specs.New.{MayNotFormat, new_caches};
 ghost use Rattle.cluster_core.specs.Fragments.{LieAtHolder};
@@ -99,18 +98,18 @@ impl<S: Store + Drop> Book<S> {
     /// does to the state, and what it makes of the caches.
     #[inline(always)]
     pub fn step(&mut self, alloc: Global, event: Event) -> Result<Answer, Refusal>
-        ensures one_thread { (opening : Tree) (past : List Applied) → StandsBehind opening past self.old
+        ensures one_thread { (opening : Opening) (past : List Applied) → StandsBehind opening past self.old
             → IsOneThread self.old.core.state.tree.limit opening (past ++ self.old.history) (past ++ self.new.history)
             (waiting_in self.old.core.state.inboxes ++ arrival event) (receipt_of result) }
         ensures in_order { InOrder (places_of self.old) (receipt_of result) (places_of self.new) }
         ensures waits { AllByRecursion (Contains (waiting_in self.old.core.state.inboxes ++ arrival event))
             (waiting_in self.new.core.state.inboxes) }
-        ensures shows { (opening : Tree) (past : List Applied) → StandsBehind opening past self.old
-            → shown self.new.core.state ≡ after self.old.core.state.tree.limit opening (past ++ self.new.history) }
-        ensures stepped { (opening : Tree) (past : List Applied) → StandsBehind opening past self.old
+        ensures shows { (opening : Opening) (past : List Applied) → StandsBehind opening past self.old
+            → shown self.new.core.state ≡ after_from self.old.core.state.tree.limit opening (past ++ self.new.history) }
+        ensures stepped { (opening : Opening) (past : List Applied) → StandsBehind opening past self.old
             → Steps self.old.core self.new.core (past ++ self.old.history) (past ++ self.new.history) result event }
         ensures uses { UsesStep self.old.core self.new.core result event }
-        ensures goes_on { (opening : Tree) (past : List Applied) → StandsBehind opening past self.old
+        ensures goes_on { (opening : Opening) (past : List Applied) → StandsBehind opening past self.old
             → StandsBehind opening past self.new }
         ensures opening { self.new.opening ≡ self.old.opening }
         ensures limit { self.new.core.state.tree.limit ≡ self.old.core.state.tree.limit }
@@ -171,7 +170,7 @@ pub fn format<S: Store + Drop>(
     ensures empty { OnOk result (S.objects store ≡ map.empty) }
     ensures opening { IfOk result (λ book. book.opening ≡ Some map.empty) }
     ensures history { IfOk result (λ book. book.history ≡ []) }
-    ensures goes_on { IfOk result (StandsBehind map.empty []) }
+    ensures goes_on { IfOk result (StandsBehind (fresh map.empty) []) }
     ensures state { IfOk result (λ book. book.core.state ≡ new_state ranks limit) }
     ensures caches { IfOk result (λ book. book.core.caches ≡ new_caches ranks cache) }
     ensures refused { IfErr result (λ back. MayNotFormat (S.objects store) (S.faults store) (S.faults back.1) back.0) }

@@ -4,7 +4,7 @@ ghost use Rattle.objstore.specs.Objects.{faults_in, faults_told};
 ghost use Rattle.std.specs.Result.{result_err};
 ghost use Rattle.std.specs.FinMap as map;
 ghost use Rattle.mds_types.specs.declared.entries.Entry.{Entry as Applied};
-ghost use Rattle.mds_types.specs.Tree.{Tree};
+ghost use Rattle.cluster_core.specs.Opening.{Opening};
 ghost use Rattle.sessions.specs.Rooms.{table};
 ghost use Rattle.sessions.specs.Table.{no_table};
 ghost use Rattle.mdcache.specs.New.{MayNotFormat, new_caches};
@@ -111,11 +111,11 @@ impl<S: Store + Drop> Cluster<S> {
         history: &mut Vec<Entry>,
         event: Event,
     ) -> Result<Answer, Refusal>
-        requires { (opening : Tree) × (past : List Applied) × IsSoundBehind opening past history.old.items self.old }
-        ensures stepped { (opening : Tree) (past : List Applied) → IsSoundBehind opening past history.old.items self.old
+        requires { (opening : Opening) × (past : List Applied) × IsSoundBehind opening past history.old.items self.old }
+        ensures stepped { (opening : Opening) (past : List Applied) → IsSoundBehind opening past history.old.items self.old
             → Steps self.old self.new (past ++ history.old.items) (past ++ history.new.items) result event }
         ensures uses { UsesStep self.old self.new result event }
-        ensures sound { (opening : Tree) (past : List Applied) → IsSoundBehind opening past history.old.items self.old
+        ensures sound { (opening : Opening) (past : List Applied) → IsSoundBehind opening past history.old.items self.old
             → IsSoundBehind opening past history.new.items self.new }
     {
         let answer = self.choose(alloc, history, event);
@@ -132,8 +132,8 @@ impl<S: Store + Drop> Cluster<S> {
         history: &mut Vec<Entry>,
         event: Event,
     ) -> Result<Answer, Refusal>
-        requires { (opening : Tree) × (past : List Applied) × IsSoundBehind opening past history.old.items self.old }
-        ensures stepped { (opening : Tree) (past : List Applied) → IsSoundBehind opening past history.old.items self.old
+        requires { (opening : Opening) × (past : List Applied) × IsSoundBehind opening past history.old.items self.old }
+        ensures stepped { (opening : Opening) (past : List Applied) → IsSoundBehind opening past history.old.items self.old
             → Steps self.old self.new (past ++ history.old.items) (past ++ history.new.items) result event }
         ensures uses { UsesStep self.old self.new result event }
         ensures valid { AreRoots self.new.state.tree self.new.state.roots }
@@ -207,8 +207,8 @@ impl<S: Store + Drop> Cluster<S> {
         history: &mut Vec<Entry>,
         rank: Rank,
     ) -> Result<Answer, Refusal>
-        requires { (opening : Tree) × (past : List Applied) × IsSoundBehind opening past history.old.items self.old }
-        ensures served { (opening : Tree) (past : List Applied) → IsSoundBehind opening past history.old.items self.old
+        requires { (opening : Opening) × (past : List Applied) × IsSoundBehind opening past history.old.items self.old }
+        ensures served { (opening : Opening) (past : List Applied) → IsSoundBehind opening past history.old.items self.old
             → AtRank self.old self.new (past ++ history.old.items) (past ++ history.new.items) rank result
             (ServesRank self.old self.new (past ++ history.old.items) (past ++ history.new.items) rank result) }
         ensures uses { UsesStep self.old self.new result (ServeEvent rank) }

@@ -2,7 +2,7 @@
 ghost use Rattle.std.specs.Prelude.{◌≡◌, ◌+◌, ◌≤◌, ◌↔◌, IsTrue, List, length, OnOk, IfErr};
 ghost use Rattle.std.specs.FinMap as map;
 ghost use Rattle.std.specs.Result.{result_err};
-ghost use Rattle.mds_types.specs.Tree.{Tree};
+ghost use Rattle.cluster_core.specs.Opening.{Opening};
 ghost use Rattle.mds_types.specs.declared.entries.Entry.{Entry as Applied};
 ghost use Rattle.objstore.specs.Objects.{faults_told};
 ghost use Rattle.cluster_core.specs.Flush.{AreExact, Flushes, IsColdTree, KeepsCore, MayNotFlush};
@@ -65,7 +65,7 @@ pub fn flush<S: Store + Drop>(
     ensures purged { OnOk result (book.new.core.state.tree.purge ≡ map.empty) }
     ensures outcome { Flushes book.old book.new result }
     ensures counted { book.new.core.faults ≡ book.old.core.faults + faults_told (result_err result) }
-    ensures goes_on { (opening : Tree) (past : List Applied) → StandsBehind opening past book.old
+    ensures goes_on { (opening : Opening) (past : List Applied) → StandsBehind opening past book.old
         → StandsBehind opening past book.new }
     ensures sound { IsSoundKept book.new }
 {

@@ -1,7 +1,7 @@
 //! What a book forgets: a beginning of its history, and the tree that it opened with.
 ghost use Rattle.std.specs.Prelude.{◌≡◌, ◌<◌, ◌≤◌, ◌+◌, ◌-◌, ◌^◌, ◌++◌, None, List, length, take, drop};
 ghost use Rattle.std.specs.List.{slice_index_or};
-ghost use Rattle.mds_types.specs.Tree.{Tree};
+ghost use Rattle.cluster_core.specs.Opening.{Opening};
 ghost use Rattle.mds_types.specs.declared.entries.Entry.{Entry as Applied};
 ghost use Rattle.sessions.specs.Aside.{StopsForgetting, forget_all};
 ghost use Rattle.cluster_core.specs.Sound.{StandsBehind};
@@ -76,7 +76,7 @@ impl<S: Store + Drop> Book<S> {
             (forget_all self.old.core.state.sessions (take result self.old.history)) }
         ensures nothing { result ≡ 0 → self.new ≡ self.old }
         ensures opening { 0 < result → self.new.opening ≡ None }
-        ensures goes_on { (opening : Tree) (past : List Applied) → StandsBehind opening past self.old
+        ensures goes_on { (opening : Opening) (past : List Applied) → StandsBehind opening past self.old
             → StandsBehind opening (past ++ take result self.old.history) self.new }
     {
         let gone = self.history.len().saturating_sub(keep);
@@ -101,7 +101,7 @@ impl<S: Store + Drop> Book<S> {
             (forget_all self.old.core.state.sessions (take result self.old.history)) }
         ensures nothing { result ≡ 0 → self.new ≡ self.old }
         ensures opening { 0 < result → self.new.opening ≡ None }
-        ensures goes_on { (opening : Tree) (past : List Applied) → StandsBehind opening past self.old
+        ensures goes_on { (opening : Opening) (past : List Applied) → StandsBehind opening past self.old
             → StandsBehind opening (past ++ take result self.old.history) self.new }
     {
         let count = self.history.len();
@@ -116,7 +116,7 @@ impl<S: Store + Drop> Book<S> {
         ensures gone { self.new.opening ≡ None }
         ensures history { self.new.history ≡ self.old.history }
         ensures core { self.new.core ≡ self.old.core }
-        ensures goes_on { (opening : Tree) (past : List Applied) → StandsBehind opening past self.old
+        ensures goes_on { (opening : Opening) (past : List Applied) → StandsBehind opening past self.old
             → StandsBehind opening past self.new }
     {
         drop(self.opening.take());

@@ -1,6 +1,6 @@
 //! A request that waits is given up.
 ghost use Rattle.std.specs.Prelude.{List};
-ghost use Rattle.mds_types.specs.Tree.{Tree};
+ghost use Rattle.cluster_core.specs.Opening.{Opening};
 ghost use Rattle.mds_types.specs.declared.entries.Entry.{Entry as Applied};
 ghost use Rattle.inboxes.specs.Inboxes.{waiting_at};
 ghost use Rattle.cluster_core.specs.GivenUp.{GivesUp, GivesUpIn};
@@ -26,7 +26,7 @@ impl<S: Store + Drop> Cluster<S> {
 /// never come. Nothing else changes, and nothing is told.
 pub fn give_up<S: Store + Drop>(book: &mut Book<S>, rank: Rank)
     ensures given { GivesUp book.old book.new rank }
-    ensures goes_on { (opening : Tree) (past : List Applied) → StandsBehind opening past book.old
+    ensures goes_on { (opening : Opening) (past : List Applied) → StandsBehind opening past book.old
         → StandsBehind opening past book.new }
     ensures sound { IsSoundKept book.new }
 {

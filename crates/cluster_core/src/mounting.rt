@@ -10,6 +10,7 @@ ghost use Rattle.mdcache.specs.Core.{state_of as tree_state};
 ghost use Rattle.ranked_tree.specs.Exported.{StandSoundly};
 ghost use Rattle.ranked_tree.specs.Held.{IsOwned};
 ghost use Rattle.ranked_tree.specs.Ranked.{held_roots};
+ghost use Rattle.cluster_core.specs.Opening.{fresh};
 ghost use Rattle.cluster_core.specs.Mounted.{MountsCore};
 ghost use Rattle.cluster_core.specs.Sound.{StandsBehind, IsSound, IsSoundKept};
 ghost use Rattle.cluster_core.specs.State.{core_of, shown};
@@ -45,7 +46,7 @@ impl<S: Store + Drop> Cluster<S> {
         ensures cold { IfOk result (λ m. IsColdTree (S.objects store) (shown m.0.state)) }
         ensures opening { IfOk result (λ m. m.1 ≡ shown m.0.state) }
         ensures objects { IfOk result (λ m. m.0.state.tree.objects ≡ S.objects store) }
-        ensures sound { IfOk result (λ m. IsSound m.1 [] m.0) }
+        ensures sound { IfOk result (λ m. IsSound (fresh m.1) [] m.0) }
         ensures faults { IfOk result (λ m. m.0.faults ≡ S.faults store) }
         ensures refused { IfErr result
             (λ back. MayNotMount (S.objects store) (S.faults store) (S.faults back.1) back.0) }
@@ -131,7 +132,7 @@ pub fn mount<S: Store + Drop>(
         (λ book. MountsCore limit (S.objects store) ranks cache (shown book.core.state) book.core) }
     ensures cold { IfOk result (λ book. IsColdTree (S.objects store) (shown book.core.state)) }
     ensures opening { IfOk result (λ book. book.opening ≡ Some (shown book.core.state)) }
-    ensures goes_on { IfOk result (λ book. StandsBehind (shown book.core.state) [] book) }
+    ensures goes_on { IfOk result (λ book. StandsBehind (fresh (shown book.core.state)) [] book) }
     ensures history { IfOk result (λ book. book.history ≡ []) }
     ensures objects { IfOk result (λ book. book.core.state.tree.objects ≡ S.objects store) }
     ensures sound { IfOk result IsSoundKept }

@@ -1,7 +1,6 @@
 //! A book that is closed, and opened again from its store alone.
 ghost use Rattle.std.specs.Prelude.{◌≡◌, ◌≤◌, ◌++◌, [], List, Some, IfErr, IfOk};
-ghost use Rattle.mds_types.specs.History.{after};
-ghost use Rattle.mds_types.specs.Tree.{Tree};
+ghost use Rattle.cluster_core.specs.Opening.{Opening, fresh, after_from};
 ghost use Rattle.mds_types.specs.declared.entries.Entry.{Entry as Applied};
 ghost use Rattle.cluster_core.specs.Restart.{LosesNothing};
 ghost use Rattle.cluster_core.specs.Sound.{StandsBehind, IsSoundKept};
@@ -59,12 +58,12 @@ pub fn restart<S: Store + Drop>(
     requires ranked { ranks ≤ 16 }
     requires least { 512 ≤ cache }
     requires most { cache ≤ 65536 }
-    ensures opening { (opening : Tree) (past : List Applied) → StandsBehind opening past book → IfOk result
-        (λ next. next.opening ≡ Some (after book.core.state.tree.limit opening (past ++ book.history))) }
+    ensures opening { (opening : Opening) (past : List Applied) → StandsBehind opening past book → IfOk result
+        (λ next. next.opening ≡ Some (after_from book.core.state.tree.limit opening (past ++ book.history))) }
     ensures history { IfOk result (λ next. next.history ≡ []) }
     ensures limit { IfOk result (λ next. next.core.state.tree.limit ≡ limit) }
     ensures shows { IfOk result (λ next. next.opening ≡ Some (shown next.core.state)) }
-    ensures goes_on { IfOk result (λ next. StandsBehind (shown next.core.state) [] next) }
+    ensures goes_on { IfOk result (λ next. StandsBehind (fresh (shown next.core.state)) [] next) }
     ensures sound { IfOk result IsSoundKept }
     ensures left { IfErr result (LosesNothing S.objects S.faults book) }
 {

@@ -3,7 +3,7 @@ ghost use Rattle.std.specs.Prelude.{◌≡◌, ◌+◌, ◌<◌, ◌≤◌, ◌+
 ghost use Rattle.std.specs.List.{AllByRecursion};
 ghost use Rattle.cluster_core.specs.Sound.{StandsBehind, IsSoundKept};
 ghost use Rattle.cluster_core.specs.State.{places_of, whole_of};
-ghost use Rattle.mds_types.specs.Tree.{Tree};
+ghost use Rattle.cluster_core.specs.Opening.{Opening};
 ghost use Rattle.mds_types.specs.declared.entries.Entry.{Entry as Applied};
 ghost use Rattle.cluster_core.specs.OneThread.{InOrder, IsOneThread, IsOneThreadThroughout, arrivals, receipts_of, waiting_in};
 ghost use Rattle.cluster_core.specs.Runs.{IsRun};
@@ -22,7 +22,7 @@ pub fn run<S: Store + Drop>(
     book: &mut Book<S>,
     events: Vec<Event>,
 ) -> Result<Vec<Result<Answer, Refusal>>, Refusal>
-    ensures one_thread { (opening : Tree) (past : List Applied) → StandsBehind opening past book.old → IfOk result
+    ensures one_thread { (opening : Opening) (past : List Applied) → StandsBehind opening past book.old → IfOk result
         (λ results. IsOneThread book.old.core.state.tree.limit opening (past ++ book.old.history)
         (past ++ book.new.history) (waiting_in book.old.core.state.inboxes ++ arrivals events.items)
         (receipts_of results.items)) }
@@ -31,14 +31,14 @@ pub fn run<S: Store + Drop>(
     ensures waits { OnOk result
         (AllByRecursion (Contains (waiting_in book.old.core.state.inboxes ++ arrivals events.items))
         (waiting_in book.new.core.state.inboxes)) }
-    ensures throughout { (opening : Tree) (past : List Applied) → StandsBehind opening past book.old → IfOk result
+    ensures throughout { (opening : Opening) (past : List Applied) → StandsBehind opening past book.old → IfOk result
         (λ results. IsOneThreadThroughout book.old.core.state.tree.limit opening (past ++ book.old.history)
         (past ++ book.new.history) (waiting_in book.old.core.state.inboxes) events.items results.items) }
-    ensures ran { (opening : Tree) (past : List Applied) → StandsBehind opening past book.old → IfOk result
+    ensures ran { (opening : Opening) (past : List Applied) → StandsBehind opening past book.old → IfOk result
         (λ results. IsRun (whole_of opening past book.old) events.items results.items
         (whole_of opening past book.new)) }
     ensures refused { IfErr result (λ reason. (reason ≡ Refusal.NoMemory) × (book.new ≡ book.old)) }
-    ensures goes_on { (opening : Tree) (past : List Applied) → StandsBehind opening past book.old
+    ensures goes_on { (opening : Opening) (past : List Applied) → StandsBehind opening past book.old
         → StandsBehind opening past book.new }
     ensures opening { book.new.opening ≡ book.old.opening }
     ensures sound { IsSoundKept book.new }

@@ -1,6 +1,7 @@
 //! A cluster comes back.
 ghost use Rattle.std.specs.Prelude.{◌≡◌, ◌≤◌, [], IfOk};
 ghost use Rattle.cold_store.specs.ColdTree.{IsColdTree};
+ghost use Rattle.cluster_core.specs.Opening.{fresh};
 ghost use Rattle.cluster_core.specs.Sound.{StandsBehind};
 ghost use Rattle.cluster_core.specs.State.{shown};
 ghost use Rattle.object_tables.specs.Noted.{none_noted};
@@ -29,7 +30,7 @@ pub fn come_back<T: Reopen + Drop>(
     requires most { cache ≤ 65536 }
     ensures back { IfOk result (λ book. ComesBack T.Store.view T.Store.recovers kept (shown book.core.state)) }
     ensures honest { ((t : T) → IsClean (T.Store.view t)) → kept.noted ≡ none_noted → IfOk result (λ book. IsColdTree kept.objects (shown book.core.state)) }
-    ensures goes_on { IfOk result (λ book. StandsBehind (shown book.core.state) [] book) }
+    ensures goes_on { IfOk result (λ book. StandsBehind (fresh (shown book.core.state)) [] book) }
 {
     has_one_cold_tree();
     let Ok(store) = kept.revive(alloc) else {

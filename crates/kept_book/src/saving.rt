@@ -1,9 +1,9 @@
 //! The tree after the history is brought on disk.
 ghost use Rattle.std.specs.Prelude.{◌≡◌, ◌++◌, List, IfOk, IfSome};
-ghost use Rattle.mds_types.specs.History.{after};
 ghost use Rattle.mds_types.specs.Tree.{Tree};
 ghost use Rattle.mds_types.specs.declared.entries.Entry.{Entry as Applied};
 ghost use Rattle.cold_store.specs.ColdTree.{IsColdTree};
+ghost use Rattle.cluster_core.specs.Opening.{Opening, after_from};
 ghost use Rattle.cluster_core.specs.Sound.{StandsBehind, IsSoundKept};
 ghost use Rattle.sqlite_trees.specs.View.{IsClean};
 ghost use Rattle.kept_book.specs.Saves.{Saves};
@@ -39,11 +39,11 @@ pub fn save<T: Settle + Drop>(
     alloc: Global,
     book: &mut Book<Kept<T>>,
 ) -> Result<Snapshot<Kept<T>>, Unsaved>
-    ensures on_disk { (opening : Tree) (past : List Applied) → StandsBehind opening past book.old → IfOk result
+    ensures on_disk { (opening : Opening) (past : List Applied) → StandsBehind opening past book.old → IfOk result
         (λ s. IsClean (T.Store.view s.value.tables) → IsOnDisk (T.Store.recovers s.value.tables)
-        (after book.old.core.state.tree.limit opening (past ++ book.old.history))) }
+        (after_from book.old.core.state.tree.limit opening (past ++ book.old.history))) }
     ensures saves { Saves book.old book.new result }
-    ensures goes_on { (opening : Tree) (past : List Applied) → StandsBehind opening past book.old
+    ensures goes_on { (opening : Opening) (past : List Applied) → StandsBehind opening past book.old
         → StandsBehind opening past book.new }
     ensures sound { IsSoundKept book.new }
 {

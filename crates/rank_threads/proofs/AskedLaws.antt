@@ -1,5 +1,5 @@
 -- What the lock keeps of the requests that were sent, step by step, and what the threads keep of those that they bring.
-use Rattle.rank_threads.proofs.Common.{Agree, AllByRecursion, Answer, Contains, Continues, EachIsSent, Entry, IsAskedFor, IsOneThread, IsSent, IsSoundKept, KeptState, List, Receipt, Refusal, Request, Result, Serves, StandsBehind, Tree, Turn, [], ap, drop, length, map, places_of, plan_arrivals, plans_arrivals, receipt_of, receipts_of, receipts_of_all, rules, subst, sym, take, turn_arrival, waiting_in, ℕ, ◌++◌, ◌∙◌, ◌∷◌, ◌≡◌, ◌≤◌}
+use Rattle.rank_threads.proofs.Common.{Agree, AllByRecursion, Answer, Contains, Continues, EachIsSent, Entry, IsAskedFor, IsOneThread, IsSent, IsSoundKept, KeptState, List, Opening, Receipt, Refusal, Request, Result, Serves, StandsBehind, Turn, [], ap, drop, length, map, places_of, plan_arrivals, plans_arrivals, receipt_of, receipts_of, receipts_of_all, rules, subst, sym, take, turn_arrival, waiting_in, ℕ, ◌++◌, ◌∙◌, ◌∷◌, ◌≡◌, ◌≤◌}
 use Rattle.std.proofs.Math.Logic.{∥∥₁_elim, ∥∥₁_map, ∥∥₁_prop}
 use Rattle.std.proofs.lemmas.List.{append_assoc, drop-append-le, drop_all, map-append, take_all}
 use Rattle.mds_types.specs.History.{IsLegal}
@@ -18,7 +18,7 @@ both a b f = ∥∥₁_elim a ∥∥₁_prop (λ x. ∥∥₁_map b (λ y. f x y
 -- ---- a step of the book
 
 module _ (limit : ℕ) (sent : List Request) (begun : List Entry) (old new : KeptState) (brings : List Request) (told : List Receipt) (known : IsSoundKept old)
-    (ones : (opening : Tree) (past : List Entry) → StandsBehind opening past old → IsOneThread old.core.state.tree.limit opening (past ++ old.history) (past ++ new.history) (waiting_in old.core.state.inboxes ++ brings) told) where
+    (ones : (opening : Opening) (past : List Entry) → StandsBehind opening past old → IsOneThread old.core.state.tree.limit opening (past ++ old.history) (past ++ new.history) (waiting_in old.core.state.inboxes ++ brings) told) where
   all_sent : Serves limit sent begun old → AllByRecursion (Contains sent) brings → AllByRecursion (Contains sent) (waiting_in old.core.state.inboxes ++ brings)
   all_sent s b = all_append (Contains sent) (waiting_in old.core.state.inboxes) brings s.waits b
 
@@ -103,8 +103,8 @@ each_brings sent waits plans is = each_of sent plans (subst (λ (all : List Requ
 
 -- a book that goes on from what was handed in, of whose requests it serves, is that of one thread
 pub one_of : (first book : KeptState) (sent : List Request) (told : List Receipt) → Continues first book → Serves first.core.state.tree.limit sent first.history book → AllByRecursion (IsAskedFor sent) told
-    → ((opening : Tree) (past : List Entry) → StandsBehind opening past first → Agree (past ++ book.history) (places_of first) told)
-    → (opening : Tree) (past : List Entry) → StandsBehind opening past first → IsOneThread first.core.state.tree.limit opening (past ++ first.history) (past ++ book.history) sent told
+    → ((opening : Opening) (past : List Entry) → StandsBehind opening past first → Agree (past ++ book.history) (places_of first) told)
+    → (opening : Opening) (past : List Entry) → StandsBehind opening past first → IsOneThread first.core.state.tree.limit opening (past ++ first.history) (past ++ book.history) sent told
 one_of first book sent told goes serves asked agree opening past given =
     let begun = first.history in
     let more = goes.begins.0 in

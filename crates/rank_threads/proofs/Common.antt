@@ -1,5 +1,6 @@
 -- Names of other crates, and of this one's definitions, as the proofs of this crate take them.
 pub use Rattle.cluster_core.specs.OneThread.{Agree, IsAskedFor, IsHeld, IsOneThread, IsSent, NoneTwice, Stand, StandsInHistory, arrival, first_places, receipt_of, receipts_of, waiting_in}
+pub use Rattle.cluster_core.specs.Opening.{IsLawfulFrom, IsLegalFrom, IsNextFrom, IsUsedFrom, Opening, after_from, fresh}
 pub use Rattle.cluster_core.specs.Sound.{IsSoundBook, IsSoundKept, StandsBehind}
 pub use Rattle.cluster_core.specs.State.{BookState, KeptState, places_of, whole_of}
 pub use Rattle.cluster_core.specs.declared.events.Answer.{Answer}

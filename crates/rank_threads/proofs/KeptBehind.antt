@@ -1,6 +1,6 @@
 -- That a book goes on from an opening tree and a past is a fact with nothing to choose in it beside what each book keeps: where it is only kept that it
 -- holds, it is there to be used.
-use Rattle.rank_threads.proofs.Common.{Bool, Entry, IsSoundKept, KeptState, List, StandsBehind, StaysBehind, Tree, ℕ, ◌≡◌, ◌≤◌}
+use Rattle.rank_threads.proofs.Common.{Bool, Entry, IsSoundKept, KeptState, List, Opening, StandsBehind, StaysBehind, Tree, ℕ, ◌≡◌, ◌≤◌}
 use Rattle.std.specs.Prelude.{IfSome, None, Option, Some}
 use Rattle.std.specs.Coded.{codes, le_prop}
 use Rattle.std.specs.FinMap as map
@@ -35,11 +35,11 @@ same_tree a b h = ∥∥₁_elim h (hlevel (codes, map.code)) (λ e. e)
 
 -- ---- histories
 
-lawful : (opening : Tree) (past : List Entry) (number : Option Ino) → Stable (IsLawful opening past number)
+lawful : (opening : Opening) (past : List Entry) (number : Option Ino) → Stable (IsLawful opening past number)
 lawful opening past None h = tt
 lawful opening past (Some number) h = never h
 
-next : (limit : ℕ) (opening : Tree) (past : List Entry) (e : Entry) → Stable (IsNext limit opening past e)
+next : (limit : ℕ) (opening : Opening) (past : List Entry) (e : Entry) → Stable (IsNext limit opening past e)
 next limit opening past e h = record {
   once = same_test _ _ (∥∥₁_map h (λ s. s.once));
   own = at_most _ _ (∥∥₁_map h (λ s. s.own));
@@ -49,7 +49,7 @@ next limit opening past e h = record {
   reply = same_reply _ _ (∥∥₁_map h (λ s. s.reply));
 }
 
-legal : (limit : ℕ) (opening : Tree) (history : List Entry) → Stable (IsLegal limit opening history)
+legal : (limit : ℕ) (opening : Opening) (history : List Entry) → Stable (IsLegal limit opening history)
 legal limit opening history h = λ k e below. next _ _ _ _ (∥∥₁_map h (λ s. s k e below))
 
 -- ---- sessions
@@ -84,12 +84,12 @@ set_aside past history table h = record {
 
 -- ---- books
 
-opened : (opening : Tree) (kept : Option Tree) → Stable (IfSome kept (λ tree. tree ≡ opening))
+opened : (opening : Opening) (kept : Option Tree) → Stable (IfSome kept (λ tree. tree ≡ opening))
 opened opening None h = tt
 opened opening (Some tree) h = same_tree _ _ h
 
 -- what a sound book keeps beside it holds behind whatever past
-pub kept_behind : (book : KeptState) → IsSoundKept book → (opening : Tree) (past : List Entry) → ∥ StandsBehind opening past book ∥₁ → StandsBehind opening past book
+pub kept_behind : (book : KeptState) → IsSoundKept book → (opening : Opening) (past : List Entry) → ∥ StandsBehind opening past book ∥₁ → StandsBehind opening past book
 kept_behind book known opening past h =
     let its = known.2.behind.sound in
     record {

@@ -1,5 +1,5 @@
 -- What a rank's own turn is, from what the calls that it makes say: over plain books, kept bytes and results.
-use Rattle.rank_threads.proofs.Common.{Answer, Bool, BookState, Entry, Err, Event, IsSoundKept, KeptState, List, Ok, Refusal, Result, Sent, StandsBehind, Tree, ap, false, false≢true, refl, subst, sym, true, whole_of, ℕ, ◌≡◌}
+use Rattle.rank_threads.proofs.Common.{Answer, Bool, BookState, Entry, Err, Event, IsSoundKept, KeptState, List, Ok, Opening, Refusal, Result, Sent, StandsBehind, ap, false, false≢true, refl, subst, sym, true, whole_of, ℕ, ◌≡◌}
 use Rattle.std.proofs.Common.{inl, inr}
 use Rattle.std.specs.Prelude.{Option, Some, None, is_some}
 use Rattle.mds_types.specs.declared.ids.Ino.{Ino}
@@ -28,8 +28,8 @@ took_turn old mid new rank before after proposal made same proposed does = recor
 
 -- whichever opening tree and past the book goes on from
 pub took_behind : (old mid new : KeptState) (rank : Rank) (before after : KeptSoFar) (proposal : Result (Option Event) Refusal) (made : Result Bool Refusal) → mid ≡ old → Proposes old.core rank proposal
-    → ((opening : Tree) (past : List Entry) → StandsBehind opening past mid → DoesProposal (whole_of opening past mid) (whole_of opening past new) before after proposal made)
-    → (opening : Tree) (past : List Entry) → StandsBehind opening past old → TakesOwnTurn (whole_of opening past old) (whole_of opening past new) rank before after made
+    → ((opening : Opening) (past : List Entry) → StandsBehind opening past mid → DoesProposal (whole_of opening past mid) (whole_of opening past new) before after proposal made)
+    → (opening : Opening) (past : List Entry) → StandsBehind opening past old → TakesOwnTurn (whole_of opening past old) (whole_of opening past new) rank before after made
 took_behind old mid new rank before after proposal made same proposed does opening past given =
     took_turn (whole_of opening past old) (whole_of opening past mid) (whole_of opening past new) rank before after proposal made (ap (whole_of opening past) same) proposed
     (does opening past (subst (StandsBehind opening past) (sym same) given))
@@ -77,7 +77,7 @@ sent_nothing kept dir f answer other = refl
 -- ---- what a thread knows of its turn
 
 module _ (old new : KeptState) (known : IsSoundKept old) (rank : Rank) (dir : Ino) (f : Fragment) (told : Result (Option Job) Refusal) (done : Result (Unit {0}) Refusal)
-    (steps : (opening : Tree) (past : List Entry) → StandsBehind opening past old → IsStepTold (whole_of opening past old) (whole_of opening past new) (CommitBegin rank dir f) job_of told) where
+    (steps : (opening : Opening) (past : List Entry) → StandsBehind opening past old → IsStepTold (whole_of opening past old) (whole_of opening past new) (CommitBegin rank dir f) job_of told) where
   pub commit_told : (is : Result (Option Job) Refusal) → told ≡ is → HandedOn is done → TookCommitTurn rank dir f done
   commit_told is same handed =
       (told, (whole_of known.0 known.1 old, whole_of known.0 known.1 new, steps known.0 known.1 known.2), subst (λ (t : Result (Option Job) Refusal). HandedOn t done) (sym same) handed)
@@ -86,7 +86,7 @@ module _ (old new : KeptState) (known : IsSoundKept old) (rank : Rank) (dir : In
   commit_began job is same alike handed = commit_told (Ok job) same (subst (λ (o : Option Job). HandedOn (Ok o) done) (sym alike) handed)
 
 pub step_took : (turn : Turn) (event : Event) (rank : Rank) (kept : KeptSoFar) (result : Result Answer Refusal) (old new : KeptState) → turn ≡ Step event → IsSoundKept old
-    → ((opening : Tree) (past : List Entry) → StandsBehind opening past old → IsOneStep (whole_of opening past old) (whole_of opening past new) event result) → TookTurn turn rank kept kept result
+    → ((opening : Opening) (past : List Entry) → StandsBehind opening past old → IsOneStep (whole_of opening past old) (whole_of opening past new) event result) → TookTurn turn rank kept kept result
 step_took turn event rank kept result old new is known steps =
     subst (λ (t : Turn). TookTurn t rank kept kept result) (sym is) (refl, (whole_of known.0 known.1 old, whole_of known.0 known.1 new, steps known.0 known.1 known.2))
 
@@ -97,7 +97,7 @@ pub keep_took : (turn : Turn) (rank : Rank) (before after : KeptSoFar) (dir : In
 keep_took turn rank before after dir f bytes done is keeps = subst (λ (t : Turn). TookTurn t rank before after (result_of done)) (sym is) (done, refl, keeps)
 
 pub own_told : (turn : Turn) (rank : Rank) (before after : KeptSoFar) (made : Result Bool Refusal) (result : Result Answer Refusal) (old new : KeptState) → turn ≡ Own → IsSoundKept old
-    → ((opening : Tree) (past : List Entry) → StandsBehind opening past old → TakesOwnTurn (whole_of opening past old) (whole_of opening past new) rank before after made) → result ≡ result_of made → TookTurn turn rank before after result
+    → ((opening : Opening) (past : List Entry) → StandsBehind opening past old → TakesOwnTurn (whole_of opening past old) (whole_of opening past new) rank before after made) → result ≡ result_of made → TookTurn turn rank before after result
 own_told turn rank before after made result old new is known took told =
     subst (TookTurn turn rank before after) (sym told) (own_took turn rank before after made (whole_of known.0 known.1 old) (whole_of known.0 known.1 new) is (took known.0 known.1 known.2))
 

@@ -1,5 +1,5 @@
 -- What one step makes of the history that was handed in, and of its places.
-use Rattle.rank_threads.proofs.Common.{AllByRecursion, Answer, BookState, Continues, Entry, Event, IsOneThread, IsSent, IsSoundBook, IsSoundKept, KeptState, List, Receipt, Refusal, Request, Result, StandsBehind, StaysBehind, Tree, ap, arith, drop, first_in, length, length-take, places_of, receipt_of, refl, subst, sym, take, take-append-drop, take-append-le, whole_of, ℕ, ◌++◌, ◌+◌, ◌∙◌, ◌≡◌, ◌≤◌}
+use Rattle.rank_threads.proofs.Common.{AllByRecursion, Answer, BookState, Continues, Entry, Event, IsOneThread, IsSent, IsSoundBook, IsSoundKept, KeptState, List, Opening, Receipt, Refusal, Request, Result, StandsBehind, StaysBehind, ap, arith, drop, first_in, length, length-take, places_of, receipt_of, refl, subst, sym, take, take-append-drop, take-append-le, whole_of, ℕ, ◌++◌, ◌+◌, ◌∙◌, ◌≡◌, ◌≤◌}
 use Rattle.std.proofs.Math.Logic.{∥∥₁_map}
 use Rattle.std.proofs.lemmas.List.{append_assoc}
 use Rattle.cluster_core.specs.OneThread.{InOrder}
@@ -31,17 +31,17 @@ module _ (old new : KeptState) (known : IsSoundKept old) where
   pub past_stays : StaysBehind old new → new.core.state.sessions.forgotten ≡ old.core.state.sessions.forgotten
   past_stays on = sym (on known.0 known.1 known.2).behind.aside.before ∙ known.2.behind.aside.before
 
-  pub grown : (limit : ℕ) (sent : List Request) (told : List Receipt) → ((opening : Tree) (past : List Entry) → StandsBehind opening past old → IsOneThread limit opening (past ++ old.history) (past ++ new.history) sent told)
+  pub grown : (limit : ℕ) (sent : List Request) (told : List Receipt) → ((opening : Opening) (past : List Entry) → StandsBehind opening past old → IsOneThread limit opening (past ++ old.history) (past ++ new.history) sent told)
       → Grown old new sent
   grown limit sent told ones =
       let one = ones known.0 known.1 known.2 in
       record { more = one.more; grows = behind_one known.1 new.history (old.history ++ one.more) (one.grows ∙ append_assoc known.1 old.history one.more); asked = one.asked }
 
   -- nothing was added
-  pub same_history : ((opening : Tree) (past : List Entry) → StandsBehind opening past old → past ++ new.history ≡ past ++ old.history) → new.history ≡ old.history
+  pub same_history : ((opening : Opening) (past : List Entry) → StandsBehind opening past old → past ++ new.history ≡ past ++ old.history) → new.history ≡ old.history
   same_history same = behind_one known.1 new.history old.history (same known.0 known.1 known.2)
 
-  pub same_places : StaysBehind old new → ((opening : Tree) (past : List Entry) → StandsBehind opening past old → past ++ new.history ≡ past ++ old.history) → places_of new ≡ places_of old
+  pub same_places : StaysBehind old new → ((opening : Opening) (past : List Entry) → StandsBehind opening past old → past ++ new.history ≡ past ++ old.history) → places_of new ≡ places_of old
   same_places on same = (λ i. past_stays on i + length (same_history same i))
 
 -- what a history begins with, it still begins with
@@ -75,7 +75,7 @@ pub one_step : (old new : BookState) (event : Event) (result : Result Answer Ref
     → IsOneStep old new event result
 one_step old new event result stepped uses opening sound = record { stepped = record { stepped = stepped; uses = uses; same_opening = opening }; sound = sound }
 
-pub made_step : (old new : KeptState) (event : Event) (result : Result Answer Refusal) → ((opening : Tree) (past : List Entry) → StandsBehind opening past old → Steps old.core new.core (past ++ old.history) (past ++ new.history) result event)
-    → UsesStep old.core new.core result event → StaysBehind old new → (opening : Tree) (past : List Entry) → StandsBehind opening past old → IsOneStep (whole_of opening past old) (whole_of opening past new) event result
+pub made_step : (old new : KeptState) (event : Event) (result : Result Answer Refusal) → ((opening : Opening) (past : List Entry) → StandsBehind opening past old → Steps old.core new.core (past ++ old.history) (past ++ new.history) result event)
+    → UsesStep old.core new.core result event → StaysBehind old new → (opening : Opening) (past : List Entry) → StandsBehind opening past old → IsOneStep (whole_of opening past old) (whole_of opening past new) event result
 made_step old new event result stepped uses on opening past given =
     one_step (whole_of opening past old) (whole_of opening past new) event result (stepped opening past given) uses refl (on opening past given).behind.sound

@@ -1,5 +1,5 @@
 -- One turn more.
-use Rattle.rank_threads.proofs.Common.{Agree, Answer, AreAnswered, Bool, Continues, Entry, FitsTurn, KeptState, List, PlansAnswered, Receipt, Refusal, Result, StandAmong, StandsBehind, Tree, Turn, [], ap, arith, cond, drop, drop_more, false, first_in, first_places, firsts, firsts_of_all, get_or, length, map, map-append, places_of, receipt_of, receipts_of, receipts_of_all, refl, subst, sym, true, ℕ, ◌++◌, ◌+◌, ◌<◌, ◌∙◌, ◌∷◌, ◌≡◌}
+use Rattle.rank_threads.proofs.Common.{Agree, Answer, AreAnswered, Bool, Continues, Entry, FitsTurn, KeptState, List, Opening, PlansAnswered, Receipt, Refusal, Result, StandAmong, StandsBehind, Turn, [], ap, arith, cond, drop, drop_more, false, first_in, first_places, firsts, firsts_of_all, get_or, length, map, map-append, places_of, receipt_of, receipts_of, receipts_of_all, refl, subst, sym, true, ℕ, ◌++◌, ◌+◌, ◌<◌, ◌∙◌, ◌∷◌, ◌≡◌}
 use Rattle.cluster_core.proofs.Forgotten.{places_behind}
 use Rattle.rank_threads.proofs.ReceiptLaws.{stand_in_all}
 
@@ -62,7 +62,7 @@ told_firsts_all (results ∷ answers) = first_places-append (receipts_of results
 
 -- receipts that stand among the entries that aren't forgotten agree with all, where their count is that of the entries that came
 pub agree_of : (first book : KeptState) (from : ℕ) (receipts : List Receipt) (answers : List (List (Result Answer Refusal))) → Continues first book → from ≡ places_of first → receipts ≡ receipts_of_all answers → places_of book ≡ places_of first + firsts_of_all answers
-    → StandAmong book.core.state.sessions.forgotten book.history from receipts → (opening : Tree) (past : List Entry) → StandsBehind opening past first → Agree (past ++ book.history) (places_of first) receipts
+    → StandAmong book.core.state.sessions.forgotten book.history from receipts → (opening : Opening) (past : List Entry) → StandsBehind opening past first → Agree (past ++ book.history) (places_of first) receipts
 agree_of first book from receipts answers goes is_from told counted stand opening past given =
     let on = goes.goes_on opening past given in
     let among : StandAmong (length past) book.history (places_of first) receipts = subst (λ n. StandAmong n book.history (places_of first) receipts) (sym on.behind.aside.before) (subst (λ n. StandAmong book.core.state.sessions.forgotten book.history n receipts) is_from stand) in

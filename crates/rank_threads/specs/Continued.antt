@@ -1,7 +1,7 @@
 -- What a run makes of a book, be it successful or not.
 use Rattle.std.specs.Prelude.{◌≡◌, List}
 use Rattle.mds_types.specs.declared.entries.Entry.{Entry}
-use Rattle.mds_types.specs.Tree.{Tree}
+use Rattle.cluster_core.specs.Opening.{Opening}
 use Rattle.cluster_core.specs.Runs.{GoesOnFrom}
 use Rattle.cluster_core.specs.Sound.{StandsBehind, IsSoundKept}
 use Rattle.cluster_core.specs.State.{KeptState}
@@ -9,7 +9,7 @@ use Rattle.cluster_core.specs.State.{KeptState}
 -- each opening tree and past that the one book goes on from, the other goes on from too
 abbrev pub StaysBehind : (old new : KeptState) → Type 0
 StaysBehind old new =
-    (opening : Tree) (past : List Entry) → StandsBehind opening past old → StandsBehind opening past new
+    (opening : Opening) (past : List Entry) → StandsBehind opening past old → StandsBehind opening past new
 
 -- a sound book that goes on from each opening tree and past that the other one went on from, and whose history begins
 -- with that one's; no entry was forgotten in between

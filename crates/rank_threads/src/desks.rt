@@ -5,7 +5,7 @@ ghost use Rattle.std.specs.Coded.{codes};
 ghost use Rattle.std.specs.FinMap as map;
 ghost use Rattle.mds_types.specs.declared.entries.Entry.{Entry as Applied};
 ghost use Rattle.mds_types.specs.declared.requests.Request.{Request as Asked};
-ghost use Rattle.mds_types.specs.Tree.{Tree};
+ghost use Rattle.cluster_core.specs.Opening.{Opening};
 ghost use Rattle.cluster_core.specs.OneThread.{IsAskedFor, arrival, receipt_of};
 ghost use Rattle.cluster_core.specs.Sound.{StandsBehind, IsSoundKept};
 ghost use Rattle.cluster_core.specs.State.{KeptState, new_caches, new_state, places_of, whole_of};
@@ -74,7 +74,7 @@ impl<S: Store + Drop, L: Handed> Desk<S, L> {
         ensures parts { mine.new.parts ≡ mine.old.parts }
         ensures amount { mine.new.amount ≡ mine.old.amount + first_in result }
         ensures asked_for { ∥ AllByRecursion (IsAskedFor L.sent) (receipt_of result) ∥₁ }
-        ensures stepped { (opening : Tree) (past : List Applied) → StandsBehind opening past self.old.book
+        ensures stepped { (opening : Opening) (past : List Applied) → StandsBehind opening past self.old.book
             → IsOneStep (whole_of opening past self.old.book) (whole_of opening past self.new.book) event result }
         ensures sound { IsSoundKept self.old.book }
     {
@@ -96,7 +96,7 @@ impl<S: Store + Drop, L: Handed> Desk<S, L> {
         ino: Ino,
         frag: Frag,
     ) -> Result<Option<Job>, Refusal>
-        ensures told { (opening : Tree) (past : List Applied) → StandsBehind opening past self.old.book
+        ensures told { (opening : Opening) (past : List Applied) → StandsBehind opening past self.old.book
             → IsStepTold (whole_of opening past self.old.book) (whole_of opening past self.new.book)
             (CommitBegin rank ino frag) job_of result }
         ensures sound { IsSoundKept self.old.book }
@@ -118,7 +118,7 @@ impl<S: Store + Drop, L: Handed> Desk<S, L> {
     /// The commit of what was encoded ends. The history stays.
     #[tactic(auto, using(crate::proofs::StepLaws::made_step))]
     pub(crate) fn end(&mut self, alloc: Global, encoded: Encoded) -> Result<(), Refusal>
-        ensures { (opening : Tree) (past : List Applied) → StandsBehind opening past self.old.book
+        ensures { (opening : Opening) (past : List Applied) → StandsBehind opening past self.old.book
             → IsStepTold (whole_of opening past self.old.book) (whole_of opening past self.new.book)
             (CommitEnd encoded) done_of result }
     {

@@ -1,7 +1,7 @@
 //! A run of a book on many threads.
 ghost use Rattle.std.specs.Prelude.{◌≡◌, ◌+◌, ◌≤◌, ◌++◌, Contains, List, IfOk, IfErr, vec_len};
 ghost use Rattle.std.specs.List.{AllByRecursion};
-ghost use Rattle.mds_types.specs.Tree.{Tree};
+ghost use Rattle.cluster_core.specs.Opening.{Opening};
 ghost use Rattle.mds_types.specs.declared.entries.Entry.{Entry as Applied};
 ghost use Rattle.cluster_core.specs.OneThread.{Agree, IsAskedFor, IsOneThread, waiting_in};
 ghost use Rattle.cluster_core.specs.Sound.{StandsBehind};
@@ -65,7 +65,7 @@ where
     ensures took { IfOk result (λ o.
         PlansTook (by_rank (lists_of plans.items)) (lists_of o.answers.items) (kept_of o.kept.items)) }
     ensures told { IfOk result (λ o. o.receipts.items ≡ receipts_of_all (lists_of o.answers.items)) }
-    ensures one_thread { (opening : Tree) (past : List Applied) → StandsBehind opening past book → IfOk result
+    ensures one_thread { (opening : Opening) (past : List Applied) → StandsBehind opening past book → IfOk result
         (λ o. IsOneThread book.core.state.tree.limit opening (past ++ book.history) (past ++ o.book.history)
         (waiting_in book.core.state.inboxes ++ plans_arrivals (lists_of plans.items)) o.receipts.items) }
     ensures waits { IfOk result (λ o.
@@ -110,13 +110,13 @@ where
     ensures took { IfOk result (λ o.
         PlansTook (by_rank (lists_of asked.plans.items)) (lists_of o.answers.items) (kept_of o.kept.items)) }
     ensures told { IfOk result (λ o. o.receipts.items ≡ receipts_of_all (lists_of o.answers.items)) }
-    ensures one_thread { (opening : Tree) (past : List Applied) → StandsBehind opening past book → IfOk result
+    ensures one_thread { (opening : Opening) (past : List Applied) → StandsBehind opening past book → IfOk result
         (λ o. IsOneThread book.core.state.tree.limit opening (past ++ book.history) (past ++ o.book.history)
         (waiting_in book.core.state.inboxes ++ plans_arrivals (lists_of asked.plans.items)) o.receipts.items) }
     ensures waits { IfOk result (λ o.
         AllByRecursion (Contains (waiting_in book.core.state.inboxes ++ plans_arrivals (lists_of asked.plans.items)))
         (waiting_in o.book.core.state.inboxes)) }
-    ensures agree { (opening : Tree) (past : List Applied) → StandsBehind opening past book → IfOk result
+    ensures agree { (opening : Opening) (past : List Applied) → StandsBehind opening past book → IfOk result
         (λ o. Agree (past ++ o.book.history) (places_of book) o.receipts.items) }
 {
     book.is_sound();
@@ -157,11 +157,11 @@ fn settled<S: Store + Drop, L: Handed>(
     ensures ok { IfOk result (λ o. Continues L.first o.book) }
     ensures err { IfErr result (λ e. Continues L.first e.book) }
     ensures told { IfOk result (λ o. o.receipts.items ≡ receipts_of_all (lists_of o.answers.items)) }
-    ensures one_thread { (opening : Tree) (past : List Applied) → StandsBehind opening past L.first → IfOk result
+    ensures one_thread { (opening : Opening) (past : List Applied) → StandsBehind opening past L.first → IfOk result
         (λ o. IsOneThread L.first.core.state.tree.limit opening (past ++ L.first.history) (past ++ o.book.history)
         L.sent o.receipts.items) }
     ensures waits { IfOk result (λ o. AllByRecursion (Contains L.sent) (waiting_in o.book.core.state.inboxes)) }
-    ensures agree { (opening : Tree) (past : List Applied) → StandsBehind opening past L.first → IfOk result
+    ensures agree { (opening : Opening) (past : List Applied) → StandsBehind opening past L.first → IfOk result
         (λ o. Agree (past ++ o.book.history) (places_of L.first) o.receipts.items) }
     ensures answers { IfOk result (λ o. o.answers ≡ ran.answers) }
     ensures kept { IfOk result (λ o. o.kept ≡ ran.kept) }

@@ -1,7 +1,7 @@
 //! Whether receipts agree with a history.
 ghost use Rattle.std.specs.Prelude.{◌≡◌, ◌↔◌, ◌-◌, ◌<◌, ◌≤◌, ◌++◌, List, IfOk, IfErr, IsTrue, false, get_or, length, vec_len};
 ghost use Rattle.std.specs.List.{AllByRecursion};
-ghost use Rattle.mds_types.specs.Tree.{Tree};
+ghost use Rattle.cluster_core.specs.Opening.{Opening};
 ghost use Rattle.mds_types.specs.declared.entries.Entry.{Entry as Applied};
 ghost use Rattle.cluster_core.specs.OneThread.{Agree, first_places};
 ghost use Rattle.cluster_core.specs.Sound.{StandsBehind};
@@ -24,7 +24,7 @@ pub fn audit<S: Store + Drop>(
     from: usize,
     receipts: &[Receipt],
 ) -> Result<bool, Refusal>
-    ensures ok { (opening : Tree) (past : List Applied) → StandsBehind opening past book.now → IfOk result
+    ensures ok { (opening : Opening) (past : List Applied) → StandsBehind opening past book.now → IfOk result
         (λ yes. IsTrue yes ↔ (Agree (past ++ book.now.history) from receipts.now
         × AllByRecursion (HasEntry (length past)) receipts.now)) }
     ensures err { IfErr result (λ refusal. refusal ≡ Refusal.NoMemory) }

@@ -1,5 +1,5 @@
 -- At most so many requests aren't at their master as are counted.
-use Rattle.asking.proofs.Common.{Entry, IsSoundKept, List, StandsBehind, Tree, whole_of, ◌*◌, ◌+◌, ◌≡◌, ◌≤◌}
+use Rattle.asking.proofs.Common.{Entry, IsSoundKept, List, Opening, StandsBehind, whole_of, ◌*◌, ◌+◌, ◌≡◌, ◌≤◌}
 use Rattle.cluster_core.specs.Runs.{GoesOnFrom}
 use Rattle.asking.specs.Drain.{FewStrays, waiting_in_all}
 use Rattle.asking.specs.Reached.{ServesWaiting}
@@ -8,8 +8,8 @@ use Rattle.asking.proofs.drains.answer_all.Given as goal
 abbrev pub invariant-loop-found : goal.invariant-loop-found
 invariant-loop-found g l = record {
   few : waiting_in_all l.book.core.state.inboxes ≤ 1024;
-  served : (opening : Tree) (past : List Entry) → StandsBehind opening past l.initial.book → ServesWaiting (whole_of opening past l.initial.book) (whole_of opening past l.book) l.receipts.items;
-  goes_on : (opening : Tree) (past : List Entry) → StandsBehind opening past l.initial.book → StandsBehind opening past l.book;
+  served : (opening : Opening) (past : List Entry) → StandsBehind opening past l.initial.book → ServesWaiting (whole_of opening past l.initial.book) (whole_of opening past l.book) l.receipts.items;
+  goes_on : (opening : Opening) (past : List Entry) → StandsBehind opening past l.initial.book → StandsBehind opening past l.book;
   strays : FewStrays l.book.core.state l.strays;
   exports : l.book.core.state.exports ≡ l.initial.book.core.state.exports;
   grows : GoesOnFrom l.book.history l.initial.book.history;

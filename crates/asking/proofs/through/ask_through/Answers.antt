@@ -1,4 +1,4 @@
-use Rattle.asking.proofs.Common.{Entry, Frozen, List, None, Some, StandsBehind, Tree, places_of, refl, whole_of, ◌∙◌}
+use Rattle.asking.proofs.Common.{Entry, Frozen, List, None, Opening, Some, StandsBehind, places_of, refl, whole_of, ◌∙◌}
 use Rattle.asking.proofs.OneLaws.{places_still}
 use Rattle.asking.proofs.OnceLaws.{kept_once}
 use Rattle.asking.proofs.ThroughLaws.{asked_last, copy_refused, copy_replied, fewer_left, frozen_of, gone_none, gone_one, has_still, last_not, limit_taken, none_taken, order_on, refused_so, stopped, taken_on, taken_still, thawed, thread_on}
@@ -33,11 +33,11 @@ pub loop-root-preserved : goal.loop-root-preserved
 loop-root-preserved g c =
     let known = c.is_sound.ensures in
     let h = c.loop-root.invariant in
-    let refused = λ (opening : Tree) (past : List Entry) (given : StandsBehind opening past c.args.book.now).
+    let refused = λ (opening : Opening) (past : List Entry) (given : StandsBehind opening past c.args.book.now).
     refused_so (whole_of opening past c.loop-root.book) (whole_of opening past c.ask_copy.new.book) c.args.rank c.args.request c.in-Err.refusal c.in_default-unless_frozen.ensures (c.in-Err.ensures.asked opening past (h.goes_on opening past given)) in
-    let ends = λ (opening : Tree) (past : List Entry) (given : StandsBehind opening past c.args.book.now).
+    let ends = λ (opening : Opening) (past : List Entry) (given : StandsBehind opening past c.args.book.now).
     c.in_default-end_export.ensures.ends opening past (c.in-Err.ensures.goes_on opening past (h.goes_on opening past given)) in
-    let taken = λ (opening : Tree) (past : List Entry) (given : StandsBehind opening past c.args.book.now).
+    let taken = λ (opening : Opening) (past : List Entry) (given : StandsBehind opening past c.args.book.now).
     taken_on c.args.cancel c.args.rank c.args.request c.in-Some.root (whole_of opening past c.args.book.now) (whole_of opening past c.loop-root.book) (whole_of opening past c.ask_copy.new.book) (whole_of opening past c.end_export.new.book)
     c.args.kept.now c.loop-root.kept c.end_export.new.kept (h.gone opening past given) (refused opening past given) refl c.in-Some.ensures (ends opening past given) in
     let once = taken known.0 known.1 known.2 in

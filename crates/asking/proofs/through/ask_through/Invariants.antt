@@ -1,5 +1,5 @@
 -- So many exports ended so far, and nothing else happened.
-use Rattle.asking.proofs.Common.{Entry, IsSoundKept, List, NoneWaits, StandsBehind, Tree, whole_of, ◌++◌, ◌≡◌}
+use Rattle.asking.proofs.Common.{Entry, IsSoundKept, List, NoneWaits, Opening, StandsBehind, whole_of, ◌++◌, ◌≡◌}
 use Rattle.std.specs.FinMap as map
 use Rattle.asking.specs.Ending.{HasAllBytes}
 use Rattle.asking.proofs.ThroughLaws.{HasGone}
@@ -7,10 +7,10 @@ use Rattle.asking.proofs.through.ask_through.Given as goal
 
 abbrev pub invariant-loop-root : goal.invariant-loop-root
 invariant-loop-root g l = record {
-  gone : (opening : Tree) (past : List Entry) → StandsBehind opening past l.initial.book
+  gone : (opening : Opening) (past : List Entry) → StandsBehind opening past l.initial.book
       → HasGone l.cancel l.rank l.request (whole_of opening past l.initial.book) (whole_of opening past l.book) l.initial.kept l.kept;
-  goes_on : (opening : Tree) (past : List Entry) → StandsBehind opening past l.initial.book → StandsBehind opening past l.book;
-  same : (opening : Tree) (past : List Entry) → StandsBehind opening past l.initial.book → past ++ l.book.history ≡ past ++ l.initial.book.history;
+  goes_on : (opening : Opening) (past : List Entry) → StandsBehind opening past l.initial.book → StandsBehind opening past l.book;
+  same : (opening : Opening) (past : List Entry) → StandsBehind opening past l.initial.book → past ++ l.book.history ≡ past ++ l.initial.book.history;
   bytes : HasAllBytes l.initial.book.core.state l.initial.kept → HasAllBytes l.book.core.state l.kept;
   none : NoneWaits l.book.core.state.inboxes;
   same_opening : l.book.opening ≡ l.initial.book.opening;

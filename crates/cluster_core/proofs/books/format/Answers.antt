@@ -1,5 +1,5 @@
 -- An empty book is sound.
-use Rattle.cluster_core.proofs.Common.{AreSetAside, CacheMap, State, Table, [], ap, refl, length, subst, sym, ◌∙◌}
+use Rattle.cluster_core.proofs.Common.{AreSetAside, CacheMap, State, Table, [], ap, fresh, refl, length, subst, sym, ◌∙◌}
 use Rattle.std.specs.FinMap as map
 use Rattle.sessions.proofs.AsideLaws.{aside_none}
 use Rattle.cluster_core.proofs.NewBook.{new_count, sound-empty}
@@ -11,7 +11,7 @@ invariant_of-result g c =
     let e = c.in-Ok.ensures in
     record {
       sound = (
-        map.empty,
+        fresh map.empty,
         [],
         record {
           opened = c.new-in-Ok.ensures;

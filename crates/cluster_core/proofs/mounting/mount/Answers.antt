@@ -1,5 +1,5 @@
 -- A book over a store as it is found stands behind the tree that it shows, with no past.
-use Rattle.cluster_core.proofs.Common.{AreSetAside, MountsCore, Some, StandsBehind, Table, [], aside_none, ap, refl, subst, sym}
+use Rattle.cluster_core.proofs.Common.{AreSetAside, MountsCore, Some, StandsBehind, Table, [], aside_none, ap, fresh, refl, subst, sym}
 use Rattle.cluster_core.proofs.MountedBook.{mounts_none_kept}
 use Rattle.cluster_core.proofs.SettledLaws.{none_known}
 use Rattle.cluster_core.proofs.mounting.mount.Goals as goal
@@ -9,7 +9,7 @@ invariant_of-result g c =
     let m = c.in-Ok in
     record {
       sound = (
-        m.opening,
+        fresh m.opening,
         [],
         record {
           opened = refl;

@@ -1,5 +1,5 @@
 -- The list of events is run from its front.
-use Rattle.cluster_core.proofs.Common.{Entry, StandsBehind, InOrder, List, Tree, arith, into_iter_items, length, places_of, receipts_of, refl, subst, sym, ℕ, ◌++◌, ◌∙◌}
+use Rattle.cluster_core.proofs.Common.{Entry, Opening, StandsBehind, InOrder, List, arith, into_iter_items, length, places_of, receipts_of, refl, subst, sym, ℕ, ◌++◌, ◌∙◌}
 use Rattle.cluster_core.proofs.Forgotten.{places_behind}
 use Rattle.cluster_core.proofs.OneThreadLaws.{run_as_one, run_throughout}
 use Rattle.cluster_core.proofs.RunLaws.{run_more, run_all, run_of}
@@ -9,7 +9,7 @@ pub loop-event-preserved : goal.loop-event-preserved
 loop-event-preserved g c =
     let h = c.loop-event.invariant in
     let known = c.is_sound.ensures in
-    let more = λ (opening : Tree) (past : List Entry) (goes : StandsBehind opening past c.args.book.now).
+    let more = λ (opening : Opening) (past : List Entry) (goes : StandsBehind opening past c.args.book.now).
     let on = h.goes_on opening past goes in
     run_more _ _ _ c.args.events.items (into_iter_items c.next.new.self) c.loop-event.results.items c.put.new.results.items c.step.result c.in-Some.event _ _
     (h.ran opening past goes) (sym c.in-Some.ensures.items ∙ h.left) (record { stepped = c.step.ensures.stepped opening past on; uses = c.step.ensures.uses; same_opening = refl }) (c.step.ensures.goes_on opening past on).behind.sound c.put.ensures.len c.put.ensures.items in
@@ -27,9 +27,9 @@ pub returns : goal.returns
 returns g c =
     let h = c.loop-event.invariant in
     let known = c.is_sound.ensures in
-    let ran = λ (opening : Tree) (past : List Entry) (goes : StandsBehind opening past c.args.book.now).
+    let ran = λ (opening : Opening) (past : List Entry) (goes : StandsBehind opening past c.args.book.now).
     run_all _ _ c.args.events.items _ _ (h.ran opening past goes) (omega (arith, h.count, c.in_default.ensures.cases.0)) in
-    let its = λ (opening : Tree) (past : List Entry) (goes : StandsBehind opening past c.args.book.now).
+    let its = λ (opening : Opening) (past : List Entry) (goes : StandsBehind opening past c.args.book.now).
     run_as_one _ _ c.args.events.items _ (ran opening past goes) (h.goes_on opening past goes).behind.sound in
     let end = h.goes_on known.0 known.1 known.2 in
     record {
