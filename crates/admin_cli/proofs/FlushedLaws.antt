@@ -11,5 +11,5 @@ use Rattle.cluster_core.specs.State.{shown}
 
 -- what was shown is the tree after the history, whichever opening tree and past the book goes on from
 pub cold_after : (old : KeptState) (objects : Objects) (result : Result (Unit {0}) Refusal) → OnOk result (IsColdTree objects (shown old.core.state))
-    → OnOk result ((opening : Opening) (past : List Entry) → StandsBehind opening past old → IsColdTree objects (after old.core.state.tree.limit opening (past ++ old.history)))
+    → OnOk result ((opening : Opening) (past : List Entry) → StandsBehind opening past old → IsColdTree objects (after_from old.core.state.tree.limit opening (past ++ old.history)))
 cold_after old objects result cold = on_ok_weaker result (λ (is : IsColdTree objects (shown old.core.state)). (λ opening past given. subst (λ (t : Tree). IsColdTree objects t) given.behind.sound.replayed is)) cold

@@ -47,7 +47,6 @@ use Rattle.admin_cli.specs.Modes.{AsksLine, AsksOperation, AsksRequest, CarriesO
 use Rattle.admin_cli.specs.declared.modes.Mode.{Mode}
 use Rattle.asking.specs.Ask.{NoneWaits}
 use Rattle.asking.specs.Reached.{receipt_in as told_in}
-use Rattle.mds_types.specs.History.{IsLegal}
 use Rattle.std.specs.Prelude.{Bool, MatchBool, false, true}
 use Rattle.admin_cli.specs.StepLines.{DoesEvent, IsStep, arrived_line}
 use Rattle.admin_cli.specs.StoreLines.{BeginsAlone, BeginsJob, CommitsAfter, CommitsLine, EndsKept, ExecutesStore, IsFlush, LacksForStore, LosesJob, begun_line, flushed_line}
@@ -655,7 +654,7 @@ kept_appends None after h = tt
 kept_appends (Some xs) None h = absurd h
 kept_appends (Some xs) (Some ys) h = h ∙ sym (append-nil xs)
 
-prints_none : (limit : ℕ) (opening : Opening) (past : List Entry) (waited : List Request) (known before after : Option (List ℕ)) (result : Result (Unit {0}) ScriptFault) → IsLegal limit opening past → Keeps before after
+prints_none : (limit : ℕ) (opening : Opening) (past : List Entry) (waited : List Request) (known before after : Option (List ℕ)) (result : Result (Unit {0}) ScriptFault) → IsLegalFrom limit opening past → Keeps before after
     → PrintsOneThread limit opening past waited known before after result
 prints_none limit opening past waited known before after result legal same = record {
   lines = lines_in known;
@@ -682,11 +681,11 @@ keeps_itself : (before : Option (List ℕ)) → Keeps before before
 keeps_itself None = tt
 keeps_itself (Some xs) = refl
 
-nothing_legal : (limit : ℕ) → IsLegal limit finite.empty []
-nothing_legal limit = λ k e below. absurd (omega (arith, below))
+nothing_legal : (limit : ℕ) → IsLegalFrom limit (fresh finite.empty) []
+nothing_legal limit = record { begins = omega arith; next = λ k e from below. absurd (omega (arith, below)) }
 
-pub prints_nothing : (limit : ℕ) (known before : Option (List ℕ)) (result : Result (Unit {0}) ScriptFault) → PrintsOneThread limit finite.empty [] [] known before before result
-prints_nothing limit known before result = prints_none limit finite.empty [] [] known before before result (nothing_legal limit) (keeps_itself before)
+pub prints_nothing : (limit : ℕ) (known before : Option (List ℕ)) (result : Result (Unit {0}) ScriptFault) → PrintsOneThread limit (fresh finite.empty) [] [] known before before result
+prints_nothing limit known before result = prints_none limit (fresh finite.empty) [] [] known before before result (nothing_legal limit) (keeps_itself before)
 
 -- what a script prints over a book is what one thread tells
 pub prints_over : (Does : Doing) → AreAsOne Does → (book : KeptState) → IsSoundKept book → (known before after : Option (List ℕ)) (result : Result (Unit {0}) ScriptFault)
@@ -856,7 +855,7 @@ none_wait (suc ranks) = none_wait ranks
 -- so it is over a new book
 pub prints_new : (ranks cache limit : ℕ) (known before after : Option (List ℕ)) (result : Result (Unit {0}) ScriptFault) (book : KeptState) → IsFormatted ranks cache limit book
     → ((opening : Opening) (past : List Entry) → StandsBehind opening past book → PrintsOneThread book.core.state.tree.limit opening (past ++ book.history) (waiting_in book.core.state.inboxes) known before after result)
-    → PrintsOneThread limit finite.empty [] [] known before after result
+    → PrintsOneThread limit (fresh finite.empty) [] [] known before after result
 prints_new ranks cache limit known before after result book formatted h =
     let limited : book.core.state.tree.limit ≡ limit = ap (λ (s : State). s.tree.limit) formatted.state in
     let waits : waiting_in book.core.state.inboxes ≡ [] = ap (λ (s : State). waiting_in s.inboxes) formatted.state ∙ none_wait ranks in

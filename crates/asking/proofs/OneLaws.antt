@@ -2,7 +2,7 @@
 use Rattle.asking.proofs.Common.{Answer, BookState, Entry, Event, InOrder, IsSoundBook, KeptState, List, NoneWaits, Opening, Refusal, Request, Result, Runs, StandsBehind, [], ap, append-nil, inl, inr, arith, length, places_of, refl, subst, sym, ℕ, ◌++◌, ◌∙◌, ◌∷◌, ◌≡◌}
 use Rattle.std.specs.Prelude.{suc}
 use Rattle.inboxes.specs.Inboxes.{Inboxes}
-use Rattle.mds_types.specs.History.{IsLegal}
+use Rattle.cluster_core.specs.Opening.{IsLegalFrom}
 use Rattle.cluster_core.specs.GivenUp.{GivesUpIn}
 use Rattle.cluster_core.specs.State.{Core}
 use Rattle.cluster_core.specs.OneThread.{IsOneThread, arrivals, receipts_of, waiting_in}
@@ -34,7 +34,7 @@ pub refused_as_one : (old new : BookState) (request : Request) → IsSoundBook o
 refused_as_one old new request sound same = record {
   more = [];
   grows = same ∙ sym (append-nil old.history);
-  legal = subst (λ (h : List Entry). IsLegal old.core.state.tree.limit old.opening h) (sym same) sound.legal;
+  legal = subst (λ (h : List Entry). IsLegalFrom old.core.state.tree.limit old.opening h) (sym same) sound.legal;
   asked = tt;
   asked_for = tt;
   agree = record { stand = record { held = tt; newer = tt; apart = tt }; as_many = (let e = ap length same in omega (arith, e)) };

@@ -2,7 +2,7 @@
 use Rattle.rank_threads.proofs.Common.{Agree, AllByRecursion, Answer, Contains, Continues, EachIsSent, Entry, IsAskedFor, IsOneThread, IsSent, IsSoundKept, KeptState, List, Opening, Receipt, Refusal, Request, Result, Serves, StandsBehind, Turn, [], ap, drop, length, map, places_of, plan_arrivals, plans_arrivals, receipt_of, receipts_of, receipts_of_all, rules, subst, sym, take, turn_arrival, waiting_in, ℕ, ◌++◌, ◌∙◌, ◌∷◌, ◌≡◌, ◌≤◌}
 use Rattle.std.proofs.Math.Logic.{∥∥₁_elim, ∥∥₁_map, ∥∥₁_prop}
 use Rattle.std.proofs.lemmas.List.{append_assoc, drop-append-le, drop_all, map-append, take_all}
-use Rattle.mds_types.specs.History.{IsLegal}
+use Rattle.cluster_core.specs.Opening.{IsLegalFrom}
 use Rattle.std.proofs.lemmas.List.Elements.{All-contains, All-from_recursion}
 use Rattle.cluster_core.proofs.ListLaws.{all_append, all_back, all_front, all_weaker, each_left, each_right}
 use Rattle.cluster_core.proofs.Forgotten.{places_behind}
@@ -112,7 +112,7 @@ one_of first book sent told goes serves asked agree opening past given =
     record {
       more = more;
       grows = ap (λ (es : List Entry). past ++ es) goes.begins.1 ∙ sym (append_assoc past begun more);
-      legal = subst (λ (n : ℕ). IsLegal n opening (past ++ book.history)) serves.limited (goes.goes_on opening past given).behind.sound.legal;
+      legal = subst (λ (n : ℕ). IsLegalFrom n opening (past ++ book.history)) serves.limited (goes.goes_on opening past given).behind.sound.legal;
       asked = subst (AllByRecursion (IsSent sent)) left serves.asked;
       asked_for = asked;
       agree = subst (λ (n : ℕ). Agree (past ++ book.history) n told) (sym (places_behind opening past first given)) (agree opening past given);

@@ -1,13 +1,13 @@
 -- That a book goes on from an opening tree and a past is a fact with nothing to choose in it beside what each book keeps: where it is only kept that it
 -- holds, it is there to be used.
-use Rattle.rank_threads.proofs.Common.{Bool, Entry, IsSoundKept, KeptState, List, Opening, StandsBehind, StaysBehind, Tree, ℕ, ◌≡◌, ◌≤◌}
+use Rattle.rank_threads.proofs.Common.{Bool, Entry, IsLawfulFrom, IsLegalFrom, IsNextFrom, IsSoundKept, KeptState, List, Opening, StandsBehind, StaysBehind, Tree, ℕ, ◌≡◌, ◌≤◌}
 use Rattle.std.specs.Prelude.{IfSome, None, Option, Some}
 use Rattle.std.specs.Coded.{codes, le_prop}
 use Rattle.std.specs.FinMap as map
 use Rattle.std.proofs.Math.Logic.{∥∥₁_elim, ∥∥₁_map}
 use Rattle.mds_types.specs.declared.ids.Ino.{Ino}
 use Rattle.mds_types.specs.declared.replies.Reply.{Reply}
-use Rattle.mds_types.specs.History.{IsLawful, IsLegal, IsNext, IsPairAt}
+use Rattle.mds_types.specs.History.{IsPairAt}
 use Rattle.sessions.specs.Aside.{AreSetAside, IsAsideFor}
 use Rattle.sessions.specs.Table.{IsKeptFor, IsTableOf, Table}
 
@@ -35,11 +35,11 @@ same_tree a b h = ∥∥₁_elim h (hlevel (codes, map.code)) (λ e. e)
 
 -- ---- histories
 
-lawful : (opening : Opening) (past : List Entry) (number : Option Ino) → Stable (IsLawful opening past number)
+lawful : (opening : Opening) (past : List Entry) (number : Option Ino) → Stable (IsLawfulFrom opening past number)
 lawful opening past None h = tt
 lawful opening past (Some number) h = never h
 
-next : (limit : ℕ) (opening : Opening) (past : List Entry) (e : Entry) → Stable (IsNext limit opening past e)
+next : (limit : ℕ) (opening : Opening) (past : List Entry) (e : Entry) → Stable (IsNextFrom limit opening past e)
 next limit opening past e h = record {
   once = same_test _ _ (∥∥₁_map h (λ s. s.once));
   own = at_most _ _ (∥∥₁_map h (λ s. s.own));
@@ -49,8 +49,11 @@ next limit opening past e h = record {
   reply = same_reply _ _ (∥∥₁_map h (λ s. s.reply));
 }
 
-legal : (limit : ℕ) (opening : Opening) (history : List Entry) → Stable (IsLegal limit opening history)
-legal limit opening history h = λ k e below. next _ _ _ _ (∥∥₁_map h (λ s. s k e below))
+legal : (limit : ℕ) (opening : Opening) (history : List Entry) → Stable (IsLegalFrom limit opening history)
+legal limit opening history h = record {
+  begins = at_most _ _ (∥∥₁_map h (λ s. s.begins));
+  next = λ k e from below. next _ _ _ _ (∥∥₁_map h (λ s. s.next k e from below));
+}
 
 -- ---- sessions
 
@@ -84,7 +87,7 @@ set_aside past history table h = record {
 
 -- ---- books
 
-opened : (opening : Opening) (kept : Option Tree) → Stable (IfSome kept (λ tree. tree ≡ opening))
+opened : (opening : Opening) (kept : Option Tree) → Stable (IfSome kept (λ tree. tree ≡ opening.tree))
 opened opening None h = tt
 opened opening (Some tree) h = same_tree _ _ h
 
