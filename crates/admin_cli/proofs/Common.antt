@@ -16,6 +16,7 @@ pub use Rattle.admin_cli.specs.declared.faults.ScriptFault.{ScriptFault}
 pub use Rattle.admin_cli.specs.declared.waiting.Mark.{Mark}
 pub use Rattle.admin_cli.specs.declared.waiting.Waiting.{Waiting}
 pub use Rattle.cluster_core.specs.Proposal.{Proposes}
+pub use Rattle.cluster_core.specs.Opening.{IsLegalFrom, Opening, after_from, fresh}
 pub use Rattle.cluster_core.specs.SentBytes.{none_sent}
 pub use Rattle.cluster_core.specs.Sound.{IsSoundKept, StandsBehind}
 pub use Rattle.cluster_core.specs.State.{BookState, KeptState, places_of, whole_of}

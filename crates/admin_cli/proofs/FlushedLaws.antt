@@ -1,8 +1,7 @@
 -- What a flush leaves, in words of the whole history.
-use Rattle.admin_cli.proofs.Common.{KeptState, List, Opening, Refusal, Result, StandsBehind, subst, ◌++◌}
+use Rattle.admin_cli.proofs.Common.{KeptState, List, Opening, Refusal, Result, StandsBehind, after_from, subst, ◌++◌}
 use Rattle.std.specs.Prelude.{OnOk}
 use Rattle.std.proofs.lemmas.Result.{on_ok_weaker}
-use Rattle.mds_types.specs.History.{after}
 use Rattle.mds_types.specs.Tree.{Tree}
 use Rattle.mds_types.specs.declared.entries.Entry.{Entry}
 use Rattle.objstore.specs.Objects.{Objects}

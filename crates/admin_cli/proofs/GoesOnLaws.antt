@@ -38,7 +38,7 @@ goes_on_forgot a b count left on = λ opening past given.
 
 -- a book that grew from one that opened with the empty tree did, too
 pub opens_still : (a b : KeptState) → BookGrows a b → OpensEmpty a → OpensEmpty b
-opens_still a b grows opens = let its = grows map.empty opens.0 opens.1 in (its.forgotten, its.behind)
+opens_still a b grows (opening, empty, past, behind) = let its = grows opening past behind in (opening, empty, its.forgotten, its.behind)
 
 -- so did a sound one that keeps that tree
 kept_opening : (kept : Option Tree) (opening tree : Tree) → kept ≡ Some tree → IfSome kept (λ (t : Tree). t ≡ opening) → tree ≡ opening
@@ -46,5 +46,4 @@ kept_opening kept opening tree is holds = subst (λ (o : Option Tree). IfSome o 
 
 pub opens_empty_of : (book : KeptState) → IsSoundKept book → book.opening ≡ Some map.empty → OpensEmpty book
 opens_empty_of book known is =
-    let same : map.empty ≡ known.0 = kept_opening book.opening known.0 map.empty is known.2.opened in
-    (known.1, subst (λ (t : Tree). StandsBehind t known.1 book) (sym same) known.2)
+    (known.0, sym (kept_opening book.opening known.0.tree map.empty is known.2.opened), known.1, known.2)

@@ -1,5 +1,5 @@
 -- What a script prints is what one thread tells.
-use Rattle.admin_cli.proofs.Common.{Admin, Answer, Appends, Command, EndsScript, Err, Event, Executes, FaultKind, Fragment, IfOk, IfSome, Ino, IsFormatted, Keeps, List, MakesStep, None, Ok, Opening, Option, OutputLine, Rank, Refusal, Result, RunsInput, RunsLines, RunsOrNot, Some, StopsBefore, [], ap, append-nil, append_assoc, arith, inl, inr, length, refl, shown_line, subst, sym, text_of, ℕ, ◌++◌, ◌+◌, ◌∙◌, ◌∷◌, ◌≡◌}
+use Rattle.admin_cli.proofs.Common.{Admin, Answer, Appends, Command, EndsScript, Err, Event, Executes, FaultKind, Fragment, IfOk, IfSome, Ino, IsFormatted, IsLegalFrom, Keeps, List, MakesStep, None, Ok, Opening, Option, OutputLine, Rank, Refusal, Result, RunsInput, RunsLines, RunsOrNot, Some, StopsBefore, [], ap, append-nil, append_assoc, arith, fresh, inl, inr, length, refl, shown_line, subst, sym, text_of, ℕ, ◌++◌, ◌+◌, ◌∙◌, ◌∷◌, ◌≡◌}
 use Rattle.std.specs.Prelude.{◌⊎◌, filter, flat_map, map, replicate, suc, take, zero}
 use Rattle.std.specs.List.{AllByRecursion}
 use Rattle.std.specs.FinMap as finite
@@ -861,4 +861,4 @@ prints_new ranks cache limit known before after result book formatted h =
     let waits : waiting_in book.core.state.inboxes ≡ [] = ap (λ (s : State). waiting_in s.inboxes) formatted.state ∙ none_wait ranks in
     subst (λ (n : ℕ). PrintsOneThread n finite.empty [] [] known before after result) limited
     (subst (λ (es : List Entry). PrintsOneThread book.core.state.tree.limit finite.empty es [] known before after result) formatted.history
-    (subst (λ (ws : List Request). PrintsOneThread book.core.state.tree.limit finite.empty book.history ws known before after result) waits (h finite.empty [] formatted.goes_on)))
+    (subst (λ (ws : List Request). PrintsOneThread book.core.state.tree.limit (fresh finite.empty) book.history ws known before after result) waits (h (fresh finite.empty) [] formatted.goes_on)))

@@ -6,7 +6,7 @@ use Rattle.std.specs.Fmt.{decimal}
 use Rattle.std.specs.FinMap as map
 use Rattle.std.specs.Io.KnownBytes.{Appends, Keeps}
 use Rattle.mds_types.specs.declared.entries.Entry.{Entry}
-use Rattle.cluster_core.specs.Opening.{fresh}
+use Rattle.cluster_core.specs.Opening.{Opening}
 use Rattle.cluster_core.specs.Sound.{StandsBehind}
 use Rattle.cluster_core.specs.State.{KeptState, places_of}
 use Rattle.script_output.specs.Writing.{AppendsBeginning}
@@ -33,9 +33,10 @@ pub record Reports (served : ℕ) (agrees : Bool) (text : List ℕ) : Type 0 whe
   pub in_order : AreInOrder paths
   pub whole : text ≡ head_text served agrees ++ path_lines paths
 
--- a book opened with the empty tree, whatever of its history is forgotten
+-- a book opened with the empty tree, whatever of its history is forgotten, and whatever was told before
 abbrev pub OpensEmpty : KeptState → Type 0
-OpensEmpty book = (past : List Entry) × StandsBehind (fresh map.empty) past book
+OpensEmpty book =
+    (opening : Opening) × (opening.tree ≡ map.empty) × (past : List Entry) × StandsBehind opening past book
 
 -- so it is of a sound book that opened with the empty tree
 pub record IsText (agrees : Bool) (text : List ℕ) : Type 0 where
