@@ -40,13 +40,13 @@ taking_of state rank request numbered =
 
 -- the supply afterwards
 after_taking-fresh : (opening : Opening) (past : List Entry) (s : Supply) (e : Entry)
-    → IsFresh opening past s → ((n : Ino) → e.number ≡ Some n → n.0 ≡ s.next) → IsFresh opening (past ++ e ∷ []) (after_taking s e.number)
-after_taking-fresh opening past s e fresh next_one = go e.number refl
+    → opening.told ≤ length past → IsFresh opening past s → ((n : Ino) → e.number ≡ Some n → n.0 ≡ s.next) → IsFresh opening (past ++ e ∷ []) (after_taking s e.number)
+after_taking-fresh opening past s e begins fresh next_one = go e.number refl
   where
     go : (number : Option Ino) → e.number ≡ number → IsFresh opening (past ++ e ∷ []) (after_taking s number)
-    go None is n from below among = ⊎_elim (λ before. fresh n from below before) (λ now. cc) (used_from-push opening past e n among)
+    go None is n from below among = ⊎_elim (λ before. fresh n from below before) (λ now. cc) (used_from-push opening past e n begins among)
     go (Some m) is n from below among =
-        ⊎_elim (λ before. omega (arith, fresh n from below before)) (λ now. omega (arith, next_one (record { 0 = n }) now)) (used_from-push opening past e n among)
+        ⊎_elim (λ before. omega (arith, fresh n from below before)) (λ now. omega (arith, next_one (record { 0 = n }) now)) (used_from-push opening past e n begins among)
 
 after_taking-supplied : (s : Supply) (number : Option Ino) → IsSupply s → ((n : Ino) → number ≡ Some n → (n.0 ≡ s.next) × (s.next < end_number s.rank)) → IsSupply (after_taking s number)
 after_taking-supplied s None h next_one = h
@@ -72,13 +72,13 @@ one_range : (a b n : ℕ) → first_number a ≤ n → n < end_number a → firs
 one_range a b n low high least most = omega (arith, low, high, least, most)
 
 -- another rank's supply is as fresh as it was
-others-fresh : (opening : Opening) (past : List Entry) (s other : Supply) (e : Entry) → s.rank ≢ other.rank → IsFresh opening past other
+others-fresh : (opening : Opening) (past : List Entry) (s other : Supply) (e : Entry) → opening.told ≤ length past → s.rank ≢ other.rank → IsFresh opening past other
     → ((n : Ino) → e.number ≡ Some n → (first_number s.rank ≤ n.0) × (n.0 < end_number s.rank)) → IsFresh opening (past ++ e ∷ []) other
-others-fresh opening past s other e apart fresh range n from below among =
-    ⊎_elim (λ before. fresh n from below before) (λ now. let r = range (record { 0 = n }) now in absurd (apart (one_range s.rank other.rank n r.0 r.1 from below))) (used_from-push opening past e n among)
+others-fresh opening past s other e begins apart fresh range n from below among =
+    ⊎_elim (λ before. fresh n from below before) (λ now. let r = range (record { 0 = n }) now in absurd (apart (one_range s.rank other.rank n r.0 r.1 from below))) (used_from-push opening past e n begins among)
 
 -- each rank has its supply after one of them gave out a number
-module _ (opening : Opening) (past : List Entry) (numbers : List Supply) (rank : ℕ) (e : Entry) (there : rank < length numbers) (before : AreSupplied opening past numbers)
+module _ (opening : Opening) (past : List Entry) (numbers : List Supply) (rank : ℕ) (e : Entry) (there : rank < length numbers) (begins : opening.told ≤ length past) (before : AreSupplied opening past numbers)
     (next_one : (n : Ino) → e.number ≡ Some n → (n.0 ≡ (get_or numbers rank no_supply).next) × ((get_or numbers rank no_supply).next < end_number (get_or numbers rank no_supply).rank)) where
   abbrev mine : Supply
   mine = get_or numbers rank no_supply
@@ -93,14 +93,14 @@ module _ (opening : Opening) (past : List Entry) (numbers : List Supply) (rank :
   at_rank = let h = before rank there in record {
     supply = after_taking-supplied mine e.number h.supply next_one;
     own = taking_keeps_rank mine e.number ∙ h.own;
-    fresh = after_taking-fresh opening past mine e h.fresh (λ n is. (next_one n is).0);
+    fresh = after_taking-fresh opening past mine e begins h.fresh (λ n is. (next_one n is).0);
   }
 
   elsewhere : (k : ℕ) → k < length numbers → k ≢ rank → IsSupplied opening (past ++ e ∷ []) k (get_or numbers k no_supply)
   elsewhere k below apart = let h = before k below in record {
     supply = h.supply;
     own = h.own;
-    fresh = others-fresh opening past mine (get_or numbers k no_supply) e (λ same. apart (sym h.own ∙ sym same ∙ (before rank there).own)) h.fresh range;
+    fresh = others-fresh opening past mine (get_or numbers k no_supply) e begins (λ same. apart (sym h.own ∙ sym same ∙ (before rank there).own)) h.fresh range;
   }
 
   pub supplied_after : AreSupplied opening (past ++ e ∷ []) (set numbers rank taken)
@@ -144,6 +144,6 @@ sound-applied opening past now old new rank request rest answer there sound tree
         inboxes = length-set before.inboxes rank.0 rest ∙ sound.ranks.inboxes ∙ sym (length-set before.numbers rank.0 (after_taking (supply_of before rank) e.number));
         caches = count ∙ sound.ranks.caches ∙ sym (length-set before.numbers rank.0 (after_taking (supply_of before rank) e.number));
       });
-      supplied = rw (numbers, done.appended) (supplied_after opening past before.numbers rank.0 e there sound.supplied t.next_one);
+      supplied = rw (numbers, done.appended) (supplied_after opening past before.numbers rank.0 e there sound.legal.begins sound.supplied t.next_one);
       kept = rw (sessions, done.appended) (table-push past before.sessions e sound.kept);
     }

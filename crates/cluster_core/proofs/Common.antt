@@ -17,7 +17,7 @@ pub use Rattle.cluster_core.specs.Proposal.{IsAwayTo, IsFirstAway, IsFirstKindOf
 pub use Rattle.cluster_core.specs.OneThread.{Agree, InOrder, IsAskedFor, IsHeld, IsOneThread, IsOneThreadThroughout, IsSent, NoneTwice, Stand, StandsInHistory, arrival, arrivals, first_places, receipt_of, receipts_of, waiting_in}
 pub use Rattle.cluster_core.proofs.Records.{AddsAtServe, AddsTo, IsOfHistory, Records}
 pub use Rattle.cluster_core.specs.Runs.{IsRun, Runs, StepsBook}
-pub use Rattle.cluster_core.specs.Opening.{IsGiven, IsLawfulFrom, IsLegalFrom, IsNextFrom, IsUsedFrom, Opening, after_from, fresh}
+pub use Rattle.cluster_core.specs.Opening.{IsGiven, IsLawfulFrom, IsLegalFrom, IsNextFrom, IsUsedFrom, Opening, after_from, fresh, since}
 pub use Rattle.cluster_core.specs.Serve.{AppliesRequest, AtFront, CarryLeaves, FollowPlanned, ForwardsTo, HasLeft, IsApplied, IsDeferred, IsForwarded, IsLeft, IsNoted, IsRepeated, IsTakenOut, LeavesRefused, MakesPlanned, RefusesRequest, Repeats, Replies, ServesInbox, ServesRequest, entry_of, number_of, outcome_of, went_with, with_entry, without_gone, without_request}
 pub use Rattle.cluster_core.specs.Settled.{AreSettled, IsAway, IsCalm, IsCalmIn, IsCalmOp, HasSettled, KeepsSettled}
 pub use Rattle.cluster_core.specs.Sound.{AreCached, AreExported, AreRanks, AreSupplied, IsFresh, IsSound, IsSoundBehind, IsSoundBook, IsSoundKept, IsSoundWith, IsSupplied, StandsBehind}

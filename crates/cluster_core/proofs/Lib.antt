@@ -40,7 +40,9 @@ pub mod PlaceLaws
 pub mod ProposalLaws
 pub mod Recorded
 pub mod Records
+pub mod RestartHistory
 pub mod RestartLaws
+pub mod ResumedLaws
 pub mod RunLaws
 pub mod SendLaws
 pub mod SentLaws

@@ -18,7 +18,7 @@ entry_numbered (e ∷ es) n (suc k, below, is) = let w = entry_numbered es n (k,
 
 -- of a rank's range only numbers below its next are used, where nothing was applied
 fresh_from : (opening : Tree) (s : Supply) → IsNext opening s → IsFresh (fresh opening) [] s
-fresh_from opening s next n low high (inl (t, (k, below, is), more)) = absurd (omega (arith, below))
+fresh_from opening s next n low high (inl (t, (k, below, is), from, to, less)) = absurd (omega (arith, below))
 fresh_from opening s next n low high (inr (inl one)) = absurd (omega (arith, low, one))
 fresh_from opening s next n low high (inr (inr (inl stands))) =
     let w = entry_numbered (finmap.entries opening) n stands in

@@ -5,7 +5,7 @@ use Rattle.dentry_cache.specs.CacheMap.{first}
 
 -- no number of a rank is used in an empty book
 unused-empty : (n : ℕ) → 2 ^ 40 ≤ n → IsUsedFrom (fresh finmap.empty) [] n → ⊥
-unused-empty n low (inl (s, (k, below, is), more)) = omega (arith, below)
+unused-empty n low (inl (s, (k, below, is), from, to, less)) = omega (arith, below)
 unused-empty n low (inr (inl one)) = omega arith
 unused-empty n low (inr (inr (inl (k, below, is)))) =
     let none : length (numbers finmap.empty) ≡ 0 = ap (λ es. length (map (λ (e : _). e.1.ino.0) es)) entries-empty in

@@ -1,12 +1,12 @@
 -- Laws of histories that begin with stand-ins: what one more entry changes; and behind the stand-ins the history is
 -- legal from the tree, so each number of the tree was given.
-use Rattle.cluster_core.proofs.Common.{Bool, Dentry, Entry, Ino, Inode, IsGiven, IsLawful, IsLawfulFrom, IsLegalFrom, IsNextFrom, IsUsed, IsUsedFrom, List, None, Opening, Option, Some, Tree, [], after, after-push, after_from, ap, arith, cases_lt, cond, drop, false, fresh, get_or-append_seam, get_or_append_left, inl, inr, length, length-append, list_any, numbers_used, refl, slice_index_or, subst, sym, take, true, tt, used-push, ℕ, ⊎_elim, ◌+◌, ◌++◌, ◌<◌, ◌×◌, ◌∙◌, ◌∷◌, ◌≡◌, ◌≤◌, ◌⊎◌}
-use Rattle.std.specs.Prelude.{max, ◌==◌, ◌||◌}
+use Rattle.cluster_core.proofs.Common.{Bool, Dentry, Entry, Ino, Inode, IsGiven, IsLawful, IsLawfulFrom, IsLegalFrom, IsNextFrom, IsUsed, IsUsedFrom, List, None, Opening, Option, Some, Tree, [], after, after-push, after_from, ap, arith, cases_lt, cond, drop, false, fresh, get_or-append_seam, get_or_append_left, inl, inr, length, length-append, list_any, numbers_used, refl, since, slice_index_or, subst, sym, take, true, used-push, ℕ, ⊎_elim, ◌+◌, ◌++◌, ◌<◌, ◌∙◌, ◌∷◌, ◌≡◌, ◌≤◌, ◌⊎◌}
+use Rattle.std.specs.Prelude.{if◌then◌else◌, max, ◌==◌, ◌||◌}
 use Rattle.std.specs.FinMap as map
 use Rattle.std.proofs.Math.Seq.{drop-append_seam, take-append_seam, take-append-add}
 use Rattle.std.proofs.lemmas.List.{drop-append-le, get_or-append-add, length-take, take-append-drop, take-append-le}
 use Rattle.std.proofs.lemmas.List.Folds.{list_any-append}
-use Rattle.mds_types.specs.History.{IsLegal, IsNext, IsTaken, is_pair, mark}
+use Rattle.mds_types.specs.History.{IsLegal, IsNext, is_pair, mark}
 use Rattle.mds_types.specs.Step.{number_or, step}
 
 -- the tree after one entry more
@@ -35,10 +35,11 @@ legal_from-push limit opening past e legal next = record {
         (rw (take-append_seam past (e ∷ []), get_or-append_seam past e [] d) next)
 
 -- a number that is used with one entry more was used before or is that entry's
-pub used_from-push : (opening : Opening) (past : List Entry) (e : Entry) (n : ℕ) → IsUsedFrom opening (past ++ e ∷ []) n
+pub used_from-push : (opening : Opening) (past : List Entry) (e : Entry) (n : ℕ) → opening.told ≤ length past → IsUsedFrom opening (past ++ e ∷ []) n
     → IsUsedFrom opening past n ⊎ (e.number ≡ Some (record { 0 = n }))
-used_from-push opening past e n (inl given) = inl (inl given)
-used_from-push opening past e n (inr used) = ⊎_elim (λ before. inl (inr before)) inr (used-push opening.tree past e n used)
+used_from-push opening past e n begins (inl given) = inl (inl given)
+used_from-push opening past e n begins (inr used) =
+    ⊎_elim (λ before. inl (inr before)) inr (used-push opening.tree (since opening past) e n (subst (λ (es : List Entry). IsUsed opening.tree es n) (drop-append-le opening.told past (e ∷ []) begins) used))
 
 -- ---- behind the stand-ins
 
@@ -51,26 +52,15 @@ none_behind p xs ys none = go (list_any p xs) (list_any p ys) (sym (list_any-app
 
 mark_behind : (xs ys : List Entry) (client : ℕ) → mark ys client ≤ mark (xs ++ ys) client
 mark_behind [] ys client = omega arith
-mark_behind (x ∷ xs) ys client = go (x.client == client)
+mark_behind (x ∷ xs) ys client = go (x.client == client) (mark_behind xs ys client)
   where
-    least = mark_behind xs ys client
+    go : (b : Bool) → mark ys client ≤ mark (xs ++ ys) client → mark ys client ≤ (if b then max x.oldest (mark (xs ++ ys) client) else mark (xs ++ ys) client)
+    go true least = omega (arith, least)
+    go false least = least
 
-    go : (b : Bool) → mark ys client ≤ (if b then max x.oldest (mark (xs ++ ys) client) else mark (xs ++ ys) client)
-    go true = omega (arith, least)
-    go false = least
-
-taken_behind : (xs ys : List Entry) (n : ℕ) → IsTaken ys n → IsTaken (xs ++ ys) n
-taken_behind xs ys n (k, x, below, is, took) =
-    (length xs + k, x, omega (arith, below, length-append xs ys), get_or-append-add xs ys k x ∙ is, took)
-
-used_behind : (tree : Tree) (xs ys : List Entry) (n : ℕ) → IsUsed tree ys n → IsUsed tree (xs ++ ys) n
-used_behind tree xs ys n (inl root) = inl root
-used_behind tree xs ys n (inr (inl stands)) = inr (inl stands)
-used_behind tree xs ys n (inr (inr taken)) = inr (inr (taken_behind xs ys n taken))
-
-lawful_behind : (opening : Opening) (xs ys : List Entry) (number : Option Ino) → IsLawfulFrom opening (xs ++ ys) number → IsLawful opening.tree ys number
-lawful_behind opening xs ys None lawful = tt
-lawful_behind opening xs ys (Some n) lawful = λ used. lawful (inr (used_behind opening.tree xs ys n.0 used))
+lawful_behind : (opening : Opening) (past : List Entry) (number : Option Ino) → IsLawfulFrom opening past number → IsLawful opening.tree (since opening past) number
+lawful_behind opening past None lawful = tt
+lawful_behind opening past (Some n) lawful = λ used. lawful (inr used)
 
 module _ (limit : ℕ) (opening : Opening) (xs ys : List Entry) (many : opening.told ≡ length xs) where
   next_behind : (e : Entry) (n : ℕ) → IsNextFrom limit opening (xs ++ take n ys) e → IsNext limit opening.tree (take n ys) e
@@ -81,7 +71,7 @@ module _ (limit : ℕ) (opening : Opening) (xs ys : List Entry) (many : opening.
         own = next.own;
         marked = omega (arith, next.marked, mark_behind xs (take n ys) e.client);
         number = next.number ∙ ap (λ es. (step limit (after limit opening.tree es) e.op (number_or e.number)).takes) same;
-        lawful = lawful_behind opening xs (take n ys) e.number next.lawful;
+        lawful = subst (λ (es : List Entry). IsLawful opening.tree es e.number) same (lawful_behind opening (xs ++ take n ys) e.number next.lawful);
         reply = next.reply ∙ ap (λ es. (step limit (after limit opening.tree es) e.op (number_or e.number)).reply) same;
       }
 
@@ -102,9 +92,7 @@ legal_behind limit opening history legal =
 pub numbers_from : (limit : ℕ) (opening : Opening) (history : List Entry) → IsLegalFrom limit opening history
     → (dentry : Dentry) (inode : Inode) → map.get (after_from limit opening history) dentry ≡ Some inode → IsUsedFrom opening history inode.ino.0
 numbers_from limit opening history legal dentry inode stands =
-    inr (subst (λ (es : List Entry). IsUsed opening.tree es inode.ino.0) (take-append-drop opening.told history)
-    (used_behind opening.tree (take opening.told history) (drop opening.told history) inode.ino.0
-    (numbers_used limit opening.tree (drop opening.told history) (legal_behind limit opening history legal) dentry inode stands)))
+    inr (numbers_used limit opening.tree (since opening history) (legal_behind limit opening history legal) dentry inode stands)
 
 -- ---- a history with nothing before it
 
@@ -114,7 +102,7 @@ pub legal_fresh : (limit : ℕ) (tree : Tree) (history : List Entry) → (IsLega
 legal_fresh limit tree history = (legal_behind limit (fresh tree) history, onto)
   where
     none_given : {n : ℕ} → IsGiven [] n → ⊥
-    none_given (s, (k, below, is), more) = omega (arith, below)
+    none_given (s, (k, below, is), from, to, less) = omega (arith, below)
 
     lawful_fresh : (past : List Entry) (number : Option Ino) → IsLawful tree past number → IsLawfulFrom (fresh tree) past number
     lawful_fresh past None lawful = tt

@@ -21,6 +21,7 @@ pub mod Pins
 pub mod Prepared
 pub mod Proposal
 pub mod Restart
+pub mod Resumed
 pub mod Runs
 pub mod SentBytes
 pub mod Serve

@@ -1,12 +1,12 @@
 -- What a history begins with: a tree, and what was answered before. A history that goes on after a restart begins with
 -- stand-in entries: each tells a reply that a client was given before, or how far a client's mark was. They are no steps
 -- of the tree, so a history is legal from behind them; but no request that they answer is new.
-use Rattle.std.specs.Prelude.{◌≡◌, ℕ, ◌<◌, ◌≤◌, ◌⊎◌, false, is_some, List, [], take, drop, length, Contains, Option, Some, None}
+use Rattle.std.specs.Prelude.{◌≡◌, ℕ, ◌<◌, ◌≤◌, ◌++◌, ◌⊎◌, false, is_some, List, [], take, drop, length, Contains, Option, Some, None}
 use Rattle.std.specs.List.{list_any, slice_index_or}
 use Rattle.mds_types.specs.declared.ids.Ino.{Ino}
 use Rattle.mds_types.specs.declared.entries.Entry.{Entry}
 use Rattle.mds_types.specs.Tree.{Tree}
-use Rattle.mds_types.specs.History.{after, IsUsed, is_pair, mark}
+use Rattle.mds_types.specs.History.{after, IsLegal, IsUsed, is_pair, mark}
 use Rattle.mds_types.specs.Step.{step, number_or}
 use Rattle.inode_table.specs.Numbers.{Supply, first_number, end_number}
 
@@ -21,9 +21,13 @@ pub record Opening : Type 0 where
 abbrev pub fresh : Tree → Opening
 fresh tree = record { tree = tree; told = 0; given = [] }
 
--- the tree after a history: that after the entries behind the stand-ins
+-- the entries behind the stand-ins
+abbrev pub since : Opening → List Entry → List Entry
+since opening history = drop opening.told history
+
+-- the tree after a history
 abbrev pub after_from : ℕ → Opening → List Entry → Tree
-after_from limit opening history = after limit opening.tree (drop opening.told history)
+after_from limit opening history = after limit opening.tree (since opening history)
 
 -- a number of a rank's range was given before: it is below the rank's next
 abbrev pub IsGiven : List Supply → ℕ → Type 0
@@ -32,7 +36,7 @@ IsGiven given n =
 
 -- so it was, or in this history
 abbrev pub IsUsedFrom : Opening → List Entry → ℕ → Type 0
-IsUsedFrom opening past n = IsGiven opening.given n ⊎ IsUsed opening.tree past n
+IsUsedFrom opening past n = IsGiven opening.given n ⊎ IsUsed opening.tree (since opening past) n
 
 -- a number is lawful if it wasn't
 abbrev pub IsLawfulFrom : Opening → List Entry → Option Ino → Type 0
@@ -53,3 +57,26 @@ pub record IsLegalFrom (limit : ℕ) (opening : Opening) (history : List Entry) 
   pub begins : opening.told ≤ length history
   pub next : (k : ℕ) (e : Entry) → opening.told ≤ k → k < length history
       → IsNextFrom limit opening (take k history) (slice_index_or history k e)
+
+-- with nothing before it that is a legal history from the tree; and behind the stand-ins any is
+abbrev pub BeginsAfresh : Type 0
+BeginsAfresh =
+    (limit : ℕ) (opening : Opening) (history : List Entry)
+    → ((IsLegalFrom limit opening history → IsLegal limit opening.tree (since opening history))
+    × (IsLegal limit opening.tree history → IsLegalFrom limit (fresh opening.tree) history))
+
+-- stand-ins tell what a history tells: each client's mark; at or above it the same requests are new; and each number
+-- that was given counts as given
+pub record StandIn (opening : Opening) (history : List Entry) (next : Opening) (told : List Entry) : Type 0 where
+  pub marks : (client : ℕ) → mark told client ≡ mark history client
+  pub pairs : (client tid : ℕ) → mark told client ≤ tid → list_any (is_pair client tid) told ≡ false
+      → list_any (is_pair client tid) history ≡ false
+  pub numbers : (n : ℕ) → IsUsedFrom opening history n → IsUsedFrom next told n
+
+-- where stand-ins tell what the history before them told, and the tree is the one after it, what is legal behind them is
+-- legal behind the whole history: each request is applied once, and no number is given twice
+abbrev pub RestartsAreOneHistory : Type 0
+RestartsAreOneHistory =
+    (limit : ℕ) (opening next : Opening) (history told more : List Entry) → IsLegalFrom limit opening history
+    → next.told ≡ length told → next.tree ≡ after_from limit opening history → StandIn opening history next told
+    → IsLegalFrom limit next (told ++ more) → IsLegalFrom limit opening (history ++ more)

@@ -2,6 +2,7 @@
 ghost use Rattle.cluster_core.specs.Checks.{MergesByChecks, SplitsByChecks};
 ghost use Rattle.cluster_core.specs.Commits.{JobsKeepObjects, JobsTakeWhatIsShown};
 ghost use Rattle.cluster_core.specs.Forgetting.{ABeginningMayGo, AllIsOneHistory, NoneIsNewAgain};
+ghost use Rattle.cluster_core.specs.Opening.{BeginsAfresh, RestartsAreOneHistory};
 ghost use Rattle.cluster_core.specs.Exporting.{ImportsWhatIsTold, TellsOneBytes, TellsWhatSendGave};
 ghost use Rattle.cluster_core.specs.Teeth.{OneThreadInventsNothing, OneThreadTellsAll};
 
@@ -50,4 +51,16 @@ pub fn a_beginning_may_be_forgotten()
     ensures whole { AllIsOneHistory }
     ensures forgotten { ABeginningMayGo }
     ensures repeats { NoneIsNewAgain }
+{}
+
+/// From an opening with nothing before it a history is legal exactly where it is legal from its tree; and behind the
+/// stand-ins of any opening it is legal from the tree.
+pub fn an_opening_may_be_a_tree()
+    ensures { BeginsAfresh }
+{}
+
+/// A book that goes on from what was kept of an earlier one goes on its history: what it answers behind the restart is
+/// legal behind all that was answered before. So each request is applied once, and no number is given twice.
+pub fn restarts_are_one_history()
+    ensures { RestartsAreOneHistory }
 {}

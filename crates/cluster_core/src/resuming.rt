@@ -1,0 +1,109 @@
+//! A book that goes on from what an earlier one kept.
+ghost use Rattle.std.specs.Prelude.{◌≡◌, ◌+◌, ◌<◌, ◌≤◌, ◌×◌, [], List, Some, get_or, length, IfErr, IfOk};
+ghost use Rattle.objstore.specs.Objects.{faults_in};
+ghost use Rattle.cold_store.specs.ColdTree.{IsColdTree};
+ghost use Rattle.inode_table.specs.Numbers.{end_number};
+ghost use Rattle.mds_types.specs.declared.entries.Entry.{Entry as Applied};
+ghost use Rattle.sessions.specs.Rooms.{table};
+ghost use Rattle.cluster_core.specs.Mounted.{MayNotMount};
+ghost use Rattle.cluster_core.specs.Resumed.{AreRaised, IsRaised, TellsAll, resumes};
+ghost use Rattle.cluster_core.specs.Sound.{StandsBehind, IsSoundKept};
+ghost use Rattle.cluster_core.specs.State.{no_supply, shown};
+
+use crate::books::Book;
+use crate::clusters::Cluster;
+use crate::parts::Given;
+use crate::settled::Settled;
+use inode_table::Numbers;
+use mds_types::{Ino, Limit, Rank, Refusal};
+use objstore::Store;
+use sessions::Sessions;
+use std::alloc::Global;
+use std::mem;
+
+// How many numbers each rank hands out.
+const PER_RANK: u64 = 1 << 40;
+
+/// A book over a store as it is found, as `mount` opens it, that goes on where an earlier one ended: with the sessions
+/// that were kept of it, and with the inode numbers that its ranks would have given next, by rank. A repeat of a request
+/// whose reply was kept is answered with that reply, one below its client's mark is refused `Trimmed`, and no number
+/// below a rank's next is given again. A number of ranks that this book doesn't have is left alone.
+///
+/// Refused as `mount` refuses; the sessions are dropped then.
+pub fn resume<S: Store + Drop>(
+    alloc: Global,
+    store: S,
+    ranks: u8,
+    cache: u32,
+    limit: Limit,
+    sessions: Sessions,
+    nexts: &[u64],
+) -> Result<Book<S>, (Refusal, S)>
+    requires some { 1 ≤ ranks }
+    requires ranked { ranks ≤ 16 }
+    requires least { 512 ≤ cache }
+    requires most { cache ≤ 65536 }
+    requires tells { (told : List Applied) × TellsAll told (table sessions) }
+    ensures limit { IfOk result (λ book. book.core.state.tree.limit ≡ limit) }
+    ensures cold { IfOk result (λ book. IsColdTree (S.objects store) (shown book.core.state)) }
+    ensures opening { IfOk result (λ book. book.opening ≡ Some (shown book.core.state)) }
+    ensures goes_on { (told : List Applied) → TellsAll told (table sessions) → IfOk result
+        (λ book. StandsBehind (resumes (shown book.core.state) told nexts.now) told book) }
+    ensures history { IfOk result (λ book. book.history ≡ []) }
+    ensures sessions { IfOk result (λ book. book.core.state.sessions ≡ table sessions) }
+    ensures objects { IfOk result (λ book. book.core.state.tree.objects ≡ S.objects store) }
+    ensures sound { IfOk result IsSoundKept }
+    ensures faults { IfOk result (λ book. book.core.faults ≡ S.faults store) }
+    ensures refused { IfErr result (λ back. MayNotMount (S.objects store) (S.faults store) (S.faults back.1) back.0) }
+    ensures left { IfErr result (λ back. S.objects back.1 ≡ S.objects store) }
+    ensures counted { IfErr result (λ back. S.faults back.1 ≡ S.faults store + faults_in back.0) }
+{
+    match Cluster::mount(alloc, store, ranks, cache as usize, limit) {
+        Ok((cluster, opening)) => {
+            let mut cluster = cluster;
+            cluster.given.go_on(sessions, nexts);
+            Ok(Book {
+                cluster,
+                history: Vec::new(alloc),
+                opening: Some(opening),
+                settled: Settled::new(alloc),
+            })
+        }
+        Err(back) => {
+            drop(sessions);
+            Err(back)
+        }
+    }
+}
+
+impl Given {
+    // Goes on with sessions that were kept, and with numbers that aren't below these.
+    fn go_on(&mut self, sessions: Sessions, nexts: &[u64])
+        requires few { length self.old.numbers.items ≤ 16 }
+        requires own { (rank : ℕ) → rank < length self.old.numbers.items
+            → (get_or self.old.numbers.items rank no_supply).rank ≡ rank }
+        ensures sessions { table self.new.sessions ≡ table sessions }
+        ensures numbers { AreRaised nexts.now self.old.numbers.items self.new.numbers.items }
+    {
+        drop(mem::replace(&mut self.sessions, sessions));
+        for rank in 0..self.numbers.len() {
+            let next = nexts.get(rank).copied().unwrap_or(0);
+            raise(&mut self.numbers[rank], rank, next);
+        }
+    }
+}
+
+// Raises the next number of a rank's supply to one that was stored, or to the end of its range if that is beyond it.
+fn raise(numbers: &mut Numbers, rank: usize, next: u64)
+    requires ranked { rank < 16 }
+    requires own { numbers.old.rank ≡ rank }
+    ensures { IsRaised numbers.old numbers.new next }
+{
+    if let Some(Ino(now)) = numbers.peek() {
+        if now < next {
+            let rank = Rank(rank as u8);
+            let end = Numbers::first_of(rank).0 + PER_RANK;
+            *numbers = Numbers::from(rank, next.min(end));
+        }
+    }
+}
