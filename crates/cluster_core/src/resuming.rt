@@ -8,7 +8,7 @@ ghost use Rattle.sessions.specs.Rooms.{table};
 ghost use Rattle.cluster_core.specs.Mounted.{MayNotMount};
 ghost use Rattle.cluster_core.specs.Resumed.{AreRaised, IsRaised, TellsAll, resumes};
 ghost use Rattle.cluster_core.specs.Sound.{StandsBehind, IsSoundKept};
-ghost use Rattle.cluster_core.specs.State.{no_supply, shown};
+ghost use Rattle.cluster_core.specs.State.{no_supply, shown, supply_of};
 
 use crate::books::Book;
 use crate::clusters::Cluster;
@@ -72,6 +72,26 @@ pub fn resume<S: Store + Drop>(
         Err(back) => {
             drop(sessions);
             Err(back)
+        }
+    }
+}
+
+impl<S: Store + Drop> Book<S> {
+    /// What is known of each client: to be kept for a book that resumes.
+    pub fn sessions(&self) -> &Sessions
+        ensures { table result.now ≡ self.now.core.state.sessions }
+    {
+        &self.cluster.given.sessions
+    }
+
+    /// The inode number that a rank would give next, or the end of its range: to be kept for a book that resumes.
+    pub fn next_number(&self, rank: Rank) -> u64
+        requires { rank.0 < length self.now.core.state.numbers }
+        ensures { result ≡ (supply_of self.now.core.state rank).next }
+    {
+        match self.cluster.given.supply_of(rank).peek() {
+            Some(Ino(next)) => next,
+            None => Numbers::first_of(rank).0 + PER_RANK,
         }
     }
 }
