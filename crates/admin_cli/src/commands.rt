@@ -90,11 +90,11 @@ impl<S: Keep + Drop> Admin<S> {
         }
     }
 
-    /// Does what a command asks for, and returns the line to print. The count of lines read before fits 64 bits with
-    /// one more. An error tells that memory of the script's own was refused: for a job that a step gave, for the bytes
-    /// of an export or a copy of them before its step, or for the list of the subtree map. No answer of a step is lost
-    /// but a job that was to be kept. The function isn't inlined: most lines are operations, and its caller would clear
-    /// room for all other commands. `operate` does an operation alone.
+    /// Does what a command asks for, and returns the line to print. One more line still fits the 64-bit count of lines.
+    /// An error tells that memory of the script's own was refused: for a job that a step gave, for the bytes of an
+    /// export or a copy of them before its step, or for the list of the subtree map. No answer of a step is lost but a
+    /// job that was to be kept. The function isn't inlined: most lines are operations, and its caller would clear room
+    /// for all other commands. `operate` does an operation alone.
     #[inline(never)]
     pub fn execute(
         &mut self,

@@ -30,7 +30,7 @@ IsFreezing exports root =
 abbrev pub NoneFreezing : Standing → Type 0
 NoneFreezing exports = (root : Leaf) → IsFreezing exports root → ⊥
 
--- a step of the export of this root, from its freeze to its end; a Cancel only where the caller allows it
+-- a step of the export of this root after its freeze; a Cancel only where the caller allows it
 abbrev pub IsStepOn : (cancel : Bool) → Leaf → Event → Type 0
 IsStepOn cancel root (Arrive rank request) = ⊥
 IsStepOn cancel root (Serve rank) = ⊥
@@ -132,8 +132,8 @@ pub record HasEnded (cancel : Bool) (root : Leaf) (most : ℕ) (old new : BookSt
   pub by : HandsOrCancels cancel old.core.state new.core.state root export
   pub bytes : KeepsOtherBytes before after root
 
--- the export made at most so many steps, and still exists: its region remains frozen, and the bytes that it sent are
--- kept
+-- the export made at most so many steps, and still exists: its region remains frozen; if the bytes that it sent were
+-- kept, they still are
 pub record StandsStill (cancel : Bool) (root : Leaf) (most : ℕ) (reason : Refusal) (old new : BookState)
     (before after : SentBytes) : Type 0 where
   pub export : StandingExport

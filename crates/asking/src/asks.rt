@@ -28,7 +28,7 @@ use std::alloc::Global;
 ///
 /// Refused `NotAuthority` exactly where there is no such rank. Refused `Trimmed` or `NoInodes` where serving it is
 /// refused so; then the request has left. It is also refused if memory or the store refuses it, if a rank lacks places,
-/// or `Frozen` if it would change a frozen fragment. After one of these four the request still waits, alone.
+/// or `Frozen` if it would change a frozen fragment. After each of these last four the request still waits, alone.
 #[inline(always)]
 pub fn ask<S: Store + Drop>(
     alloc: Global,

@@ -181,8 +181,9 @@ struct Closed {
     settled: Result<(), Unkept>,
 }
 
-// Saves the tree of a book. Once the file holds all of it, the log is removed, while the file is still held and no other
-// process has it open. The book is taken apart: to drop it, the proofs here would need all the types that it is made of.
+// Saves the tree of a book. Once the file holds all of it, the log is removed, while the file is still held and no
+// other process has it open. The book is taken apart: to drop it, the proofs here would need all the types that it is
+// made of.
 fn close<T: Settle + Drop>(
     host: &HostRuntime,
     rt: &(impl AllocGlobal + Threads + Sync),

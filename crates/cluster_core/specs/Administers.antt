@@ -82,8 +82,8 @@ IsAnyPinned homes covers pins dir frag =
     × (list_any (is_on leaf.0 leaf.1) pins ≡ true)
 
 -- a leaf of the rank, neither frozen nor granted, was split by so many bits, and its children are subtree roots if it
--- was one. Or it wasn't split: the leaves refuse it, the rank isn't its authority, it is frozen or granted, numbers are
--- used up, the rank lacks places for the children and one more, or the store or memory refused
+-- was one. Or it wasn't split: the leaves refuse it, the rank isn't its authority, it is frozen or granted, a counter
+-- is at its end, the rank lacks places for the children and one more, or the store or memory refused
 abbrev pub SplitsLeaf : (old new : Core) → Rank → Ino → Fragment → ℕ → Result (Unit {0}) Refusal → Type 0
 SplitsLeaf old new rank dir f nb (Ok done) =
     IsAuthority old.state (dir, f) rank × (IsFrozenAt old.state (dir, f) → ⊥) × (IsPinned old.state (dir, f) → ⊥)
@@ -106,7 +106,7 @@ abbrev pub HasPinnedInside : State → Ino → Fragment → Type 0
 HasPinnedInside state dir f = IsAnyPinned state.tree.homes state.tree.covers state.pins dir f
 
 -- the leaves inside a fragment, all of the rank and none frozen or granted, were merged into one, which is a subtree
--- root if one of them was. Or they weren't merged, for such a reason as a split has, where the rank lacks one place
+-- root if one of them was. Or they weren't merged, for reasons like those of a split, where the rank needs one place
 abbrev pub MergesLeaves : (old new : Core) → Rank → Ino → Fragment → Result (Unit {0}) Refusal → Type 0
 MergesLeaves old new rank dir f (Ok done) =
     HoldsInside old.state rank dir f × (HasFrozenInside old.state dir f → ⊥) × (HasPinnedInside old.state dir f → ⊥)

@@ -94,7 +94,7 @@ StartsExport old new past now from leaf to result =
 
 -- ---- Freeze
 
--- a leaf is granted that is in the region which this leaf has as a subtree root
+-- some leaf in the region that this root has as a subtree root is granted
 abbrev pub HasPinnedUnder : Roots → Homes → Covers → List Pin → Leaf → Type 0
 HasPinnedUnder roots homes covers pins root =
     (pin : Pin) × Contains pins pin × IsUnder roots homes covers root (pin.dir, pin.frag)

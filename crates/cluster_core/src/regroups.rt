@@ -11,8 +11,8 @@ use mds_types::{Frag, Ino, Rank};
 use objstore::Store;
 use ranked_tree::RankedTree;
 
-/// The most leaves that a directory may have for a rank to split one by 3 bits: with the seven more it has as many as
-/// it may.
+/// A rank splits no leaf of a directory with more leaves than these: a split by 3 bits adds seven, and a directory has
+/// at most 4096.
 const MOST_LEAVES: usize = 4089;
 
 /// The split of the first leaf that a rank would split.

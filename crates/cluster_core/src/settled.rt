@@ -18,7 +18,7 @@ pub(crate) struct Settled {
 }
 
 impl Settled {
-    /// It is known of no rank. Takes no memory.
+    /// Nothing is known of any rank yet. Takes no memory.
     pub(crate) fn new(alloc: Global) -> Settled
         ensures { result.ranks.items ≡ [] }
     {
@@ -27,14 +27,14 @@ impl Settled {
         }
     }
 
-    /// Whether it is known of a rank.
+    /// Whether this is known of a rank.
     pub(crate) fn knows(&self, rank: Rank) -> bool
         ensures { IsTrue result ↔ Contains self.now.ranks.items rank }
     {
         self.ranks.contains(&rank)
     }
 
-    /// Notes that it is known of a rank; if memory for that is refused, nothing is noted.
+    /// Notes that this is known of a rank; if memory for that is refused, nothing is noted.
     pub(crate) fn note(&mut self, rank: Rank)
         ensures most { (other : RankNumber) → Contains self.new.ranks.items other
             → Contains self.old.ranks.items other ⊎ (other ≡ rank) }
@@ -46,7 +46,7 @@ impl Settled {
         }
     }
 
-    /// It is known of no rank any more.
+    /// Nothing is known of any rank any more.
     pub(crate) fn forget(&mut self)
         ensures { self.new.ranks.items ≡ [] }
     {

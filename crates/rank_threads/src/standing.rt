@@ -54,7 +54,7 @@ pub(crate) fn stand<S: Store + Drop>(
     stand_among(alloc, forgotten, history, from, receipts)
 }
 
-// `stand` with the kept entries, which follow so many forgotten ones.
+// `stand` with the kept entries, behind so many forgotten ones.
 #[tactic(auto, using(crate::proofs::ReceiptLaws::marked_none, crate::proofs::ReceiptLaws::stand_end))]
 fn stand_among(
     alloc: Global,
