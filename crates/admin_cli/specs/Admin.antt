@@ -7,14 +7,14 @@ use Rattle.cluster_core.specs.SentBytes.{SentBytes}
 use Rattle.cluster_core.specs.State.{KeptState}
 use Rattle.admin_cli.specs.declared.commands.Admin as declared
 
--- a book, how many lines with an operation alone were read for it, the jobs that were begun, by their numbers, and the
--- bytes that exports sent
+-- a book, the number of lines read for it that were an operation alone, the jobs that were begun, by their numbers, and
+-- the bytes that exports sent
 pub record Admin : Type 0 where
   pub book : KeptState
   pub operations : ℕ
   pub jobs : map.FinMap nat_cmp Job
   pub sent : SentBytes
 
--- so it is whatever store the book is over
+-- an administrator as contracts see it, whatever store its book is over
 abbrev pub seen : {S : Type 0} → declared.Admin S → Admin
 seen a = record { book = a.book; operations = a.operations; jobs = a.jobs; sent = a.sent }

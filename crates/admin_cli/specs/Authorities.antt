@@ -1,4 +1,4 @@
--- What the commands on authorities print; they only read the book.
+-- The commands on authorities and the lines that they print. They only read the book.
 use Rattle.std.specs.Prelude.{◌≡◌, ◌⊎◌, List, map as each, Ok, Err}
 use Rattle.std.specs.FinMap as map
 use Rattle.mds_types.specs.declared.ids.Ino.{Ino}
@@ -20,11 +20,11 @@ root_of row = record { ino = row.0.0; frag = row.0.1; rank = row.1 }
 abbrev pub roots_in : Roots → List Root
 roots_in roots = each root_of (map.entries roots)
 
--- the subtree map was listed: no step is made for it, so nothing is refused
+-- the subtree map was listed; that is no step, so nothing is refused
 abbrev pub ListsSubtrees : State → OutputLine → Type 0
 ListsSubtrees state line = line ≡ Subtrees (roots_in state.roots)
 
--- whose a leaf is was told, or why not
+-- the authority of a leaf was told, or why it can't be
 abbrev pub TellsLine : State → Ino → Fragment → OutputLine → Type 0
 TellsLine state dir f line =
     ((rank : Rank) × TellsAuthority state (dir, f) (Ok rank) × (line ≡ Authority rank))

@@ -34,13 +34,13 @@ pub record OperatesLine (old new : KeptState) (tid : ℕ) (op : Op) (line : Outp
   }) (record { client = 0; tid = tid; oldest = tid; op = op }))
   pub rest : OperatesAfter middle new arrived line
 
--- the leaves of a directory were listed, or why not; the book is only read
+-- the leaves of a directory were listed, or refused; the book is only read
 abbrev pub ListsLine : KeptState → Ino → OutputLine → Type 0
 ListsLine book dir line =
     ((leaves : List Fragment) × ListsLeaves book.core.state dir (Ok leaves) × (line ≡ Frags leaves))
     ⊎ ((refusal : Refusal) × ListsLeaves book.core.state dir (Err refusal) × (line ≡ Refused refusal))
 
--- a command, with the count of lines that were an operation alone
+-- a command, where the count of lines with an operation alone is kept
 abbrev pub Executes : (old new : Admin) → Command → OutputLine → Type 0
 Executes old new (Operation op) line =
     (new.operations ≡ old.operations + 1) × (new.jobs ≡ old.jobs) × (new.sent ≡ old.sent)
@@ -60,8 +60,8 @@ Executes old new (Authority dir f) line = (new ≡ old) × TellsLine old.book.co
 Executes old new (Export command) line = ExecutesExport old new command line
 Executes old new (Store command) line = ExecutesStore old new command line
 
--- memory that the script itself needs for a command was refused: for a list of the subtree map, for a job, or for the
--- bytes of an export
+-- memory of the script's own was refused for a command: for the list of the subtree map, for a job, or for the bytes of
+-- an export
 abbrev pub LacksForCommand : (old new : Admin) → Command → Type 0
 LacksForCommand old new (Operation op) = ⊥
 LacksForCommand old new (Serve rank) = ⊥

@@ -1,4 +1,4 @@
--- What a command on an export does, and the line that it prints.
+-- The commands on exports, and the lines that they print.
 use Rattle.std.specs.Prelude.{◌≡◌, ℕ, List, Bool, true, false, cond, IsSome, Result, Ok, Err}
 use Rattle.std.specs.FinMap as map
 use Rattle.mds_types.specs.declared.ids.Ino.{Ino}
@@ -15,7 +15,7 @@ use Rattle.script_output.specs.declared.lines.OutputLine.{OutputLine}
 use Rattle.admin_cli.specs.Admin.{Admin}
 use Rattle.admin_cli.specs.StepLines.{DoesEvent, IsStep, shown_line}
 
--- what was sent is kept under its root, in place of what was kept there
+-- the bytes that a Send gave are kept under the root, and replace those kept there before
 abbrev pub with_sent : map.FinMap leaf_cmp (List ℕ) → Leaf → Result Answer Refusal → map.FinMap leaf_cmp (List ℕ)
 with_sent sent root (Ok (Sent bytes)) = map.insert sent root bytes
 with_sent sent root (Ok Nothing) = sent
@@ -30,7 +30,7 @@ abbrev pub is_done : Result Answer Refusal → Bool
 is_done (Ok answer) = true
 is_done (Err refusal) = false
 
--- an export was sent and its bytes are kept, or why not
+-- an export was sent and its bytes are kept, or the Send was refused
 pub record SendsLine (old new : Admin) (dir : Ino) (f : Fragment) (line : OutputLine) : Type 0 where
   pub result : Result Answer Refusal
   pub stepped : IsStep old.book new.book result (SendEvent dir f)
@@ -39,8 +39,7 @@ pub record SendsLine (old new : Admin) (dir : Ino) (f : Fragment) (line : Output
   pub count : new.operations ≡ old.operations
   pub shown : line ≡ shown_line result
 
--- the bytes kept under a root, or none, were given to the importer of its export; once it has them they are kept no
--- longer
+-- the importer of an export was given the bytes kept under its root, or none; after the import they are no longer kept
 pub record ImportsLine (old new : Admin) (dir : Ino) (f : Fragment) (line : OutputLine) : Type 0 where
   pub result : Result Answer Refusal
   pub stepped : IsStep old.book new.book result (ImportEvent dir f (bytes_for old.sent (dir, f)))
@@ -49,16 +48,15 @@ pub record ImportsLine (old new : Admin) (dir : Ino) (f : Fragment) (line : Outp
   pub count : new.operations ≡ old.operations
   pub shown : line ≡ shown_line result
 
--- there was no room for the bytes of an export; all is left
+-- there was no room for the bytes of an export, and nothing changed
 abbrev pub MakesNoRoom : (old new : Admin) → Type 0
 MakesNoRoom old new = new ≡ old
 
--- there was no memory to copy the bytes kept under a root; all is left
+-- there was no memory to copy the bytes kept under a root, and nothing changed
 abbrev pub CopiesNoBytes : (old new : Admin) → Ino → Fragment → Type 0
 CopiesNoBytes old new dir f = (new ≡ old) × IsSome (map.get old.sent.bytes (dir, f))
 
--- memory that the script itself needs for a command on an export was refused: for bytes that it keeps or copies, of no
--- step's
+-- memory of the script's own was refused for a command on an export, to keep bytes or to copy them; no step was made
 abbrev pub LacksForExport : (old new : Admin) → ExportCommand → Type 0
 LacksForExport old new (Dir from dir f to) = ⊥
 LacksForExport old new (Freeze dir f) = ⊥

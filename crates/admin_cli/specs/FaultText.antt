@@ -1,4 +1,4 @@
--- What is said of a fault, after `line K: `.
+-- The words for a fault, after `line K: `.
 use Rattle.std.specs.Prelude.{ℕ, List, codes}
 use Rattle.admin_cli.specs.declared.faults.FaultKind.{FaultKind}
 use Rattle.admin_cli.specs.declared.faults.FaultKind.TheVariants.{NotCommand, TooLong, ReadFault, WriteFault, OutOfMemory}

@@ -1,4 +1,4 @@
--- The book that a script, or a load, leaves behind.
+-- The book after a script or a load.
 use Rattle.std.specs.Prelude.{◌≡◌, ◌⊎◌, ℕ, ◌++◌, [], List, filter, flat_map, map, Option, IfOk, IfSome, Result}
 use Rattle.std.specs.Io.KnownBytes.{Appends}
 use Rattle.cluster_core.specs.declared.receipts.Receipt.{Receipt}
@@ -18,8 +18,9 @@ use Rattle.admin_cli.specs.Scripts.{Doing, LacksMemory, OfFirst, RunsLines}
 
 -- ---- in words of lines
 
--- what a script left of an administrator: lines of it were done, one after the other, whether they were printed or not,
--- and of the next line what was done before memory for it was refused. One that ended well did and wrote them all
+-- the administrator after a script: its lines were done one after the other, printed or not. If memory of the script's
+-- own was refused for the next line, that line may have been done in part. A script that ended well did and wrote all
+-- lines
 pub record LeavesAdmin (Does : Doing) (old new : Admin) (known before after : Option (List ℕ))
     (result : Result (Unit {0}) ScriptFault) : Type 0 where
   pub lines : List (List ℕ)
@@ -33,7 +34,7 @@ pub record LeavesAdmin (Does : Doing) (old new : Admin) (known before after : Op
   pub last : (new ≡ reached) ⊎ OfFirst (λ bytes. LacksMemory Does reached new bytes) left
   pub all : IfOk result (λ ended. (left ≡ []) × Appends before after text)
 
--- a script over a book left this book
+-- this is the book after a script over the old one
 pub record LeavesBook (Does : Doing) (old new : KeptState) (known before after : Option (List ℕ))
     (result : Result (Unit {0}) ScriptFault) : Type 0 where
   pub admin : Admin
@@ -42,15 +43,15 @@ pub record LeavesBook (Does : Doing) (old new : KeptState) (known before after :
 
 -- ---- in words of one plain tree served by one thread
 
--- lines were written, of which those that begin with `reply ` are these replies
+-- lines were written, and those that begin with `reply ` are these replies
 pub record PrintsReplies (told : List Receipt) (before after : Option (List ℕ)) : Type 0 where
   pub printed : List (List ℕ)
   pub written : Appends before after (flat_map ended_line printed)
   pub replies : filter is_reply printed ≡ map receipt_line told
 
--- a script over a book that went on from this opening tree and past left a book that goes on from this tree, and whose
--- whole history, with what is forgotten now, is that of one thread, which served the requests that waited and those that
--- the script's lines make; a script that ended well printed each of its replies
+-- a script over a book that went on from this opening tree and past left a book that still goes on from this tree. Its
+-- whole history, with the entries that are forgotten now, is that of one thread, which served the requests that waited
+-- and those that the script's lines make. A script that ended well printed each of the replies
 pub record LeavesOneThread (opening : Opening) (past : List Entry) (old new : KeptState) (known before after : Option (List ℕ))
     (result : Result (Unit {0}) ScriptFault) : Type 0 where
   pub lines : List (List ℕ)
@@ -66,8 +67,8 @@ pub record LeavesOneThread (opening : Opening) (past : List Entry) (old new : Ke
 
 -- ---- of a load
 
--- from whichever opening tree and past a book went on, it goes on from this tree, and its whole history, with what is
--- forgotten now, begins with the whole one from before
+-- a book that went on from this opening tree and past still goes on from this tree, and its whole history, with the
+-- entries that are forgotten now, begins with the whole history from before
 pub record GrowsBehind (opening : Opening) (past : List Entry) (old new : KeptState) : Type 0 where
   pub forgotten : List Entry
   pub behind : StandsBehind opening forgotten new

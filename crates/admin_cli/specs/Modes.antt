@@ -1,5 +1,5 @@
--- What a command of a script does where an option says more than the script: a request is brought to its answer by its
--- own line, a flush is kept in a file, and a beginning of the history is forgotten behind each line.
+-- The options of a script: the line of a request also gets its answer, a flush is kept in a file, and after each line
+-- old entries of the history are forgotten.
 use Rattle.std.specs.Prelude.{◌≡◌, ◌⊎◌, ◌+◌, ◌++◌, ◌<◌, ◌∷◌, [], List, cond, false, MatchBool, None, Result, Ok, Err}
 use Rattle.std.specs.FinMap as map
 use Rattle.mds_types.specs.declared.entries.Entry.{Entry}
@@ -30,13 +30,13 @@ use Rattle.admin_cli.specs.Execute.{Executes}
 use Rattle.admin_cli.specs.Forgetting.{ThenForgets}
 use Rattle.admin_cli.specs.StoreLines.{IsFlush, is_hindered}
 
--- a script is run as it is written
+-- no option is set: a script is run as it is written
 abbrev pub plain : Mode
 plain = record { asks = false; keeps = false; history = None }
 
--- ---- a request that is brought to its answer
+-- ---- a request whose line gets its answer
 
--- a request was asked at a rank of a book where nothing waits, and nothing waits then
+-- a request was asked at a rank of a book in which nothing waits, and nothing waits afterwards
 pub record IsAskedOnce (old new : KeptState) (rank : Rank) (request : Asked) (result : Result Receipt Refusal)
     : Type 0 where
   pub none : NoneWaits old.core.state.inboxes
@@ -52,13 +52,14 @@ pub record IsAskedOnce (old new : KeptState) (rank : Rank) (request : Asked) (re
   pub same_limit : new.core.state.tree.limit ≡ old.core.state.tree.limit
   pub sound : IsSoundKept new
 
--- so it was; where something waits, which no line of such a script leaves, it is refused InboxFull, and all is as it was
+-- a request was asked so; if something waits, which no line of such a script leaves, it is refused InboxFull, and
+-- nothing changed
 abbrev pub AsksNow : (old new : KeptState) → Rank → Asked → Result Receipt Refusal → Type 0
 AsksNow old new rank request result =
     IsAskedOnce old new rank request result
     ⊎ ((0 < waiting_in_all old.core.state.inboxes) × (result ≡ Err InboxFull) × (new ≡ old))
 
--- the line of what was asked: its reply, or why it has none
+-- the line of a request that was asked: its reply or its refusal
 abbrev pub asked_line : Result Receipt Refusal → OutputLine
 asked_line (Ok r) = Reply r.client r.tid r.place r.first r.reply
 asked_line (Err refusal) = Refused refusal
@@ -70,12 +71,12 @@ pub record AsksLine (old new : KeptState) (rank : Rank) (request : Asked) (line 
 
 -- ---- a flush that is kept
 
--- the line of a flush, where the file may refuse what it wrote
+-- the line of a flush, where the file may refuse to keep it
 abbrev pub SaysSaved : Result (Unit {0}) Refusal → OutputLine → Type 0
 SaysSaved (Ok done) line = (line ≡ Flushed) ⊎ ((why : Unkept) × (line ≡ Unsaved why))
 SaysSaved (Err refusal) line = line ≡ Refused refusal
 
--- the book is flushed, and the file was told to keep what it wrote; no job is kept any more, unless an export stands
+-- the book was flushed, and the file was told to keep that; no job is kept any more, unless an export exists
 pub record SavesLine (old new : Admin) (line : OutputLine) : Type 0 where
   pub count : new.operations ≡ old.operations
   pub result : Result (Unit {0}) Refusal
@@ -86,7 +87,7 @@ pub record SavesLine (old new : Admin) (line : OutputLine) : Type 0 where
 
 -- ---- a command
 
--- an operation alone is client 0's at rank 0
+-- an operation alone is asked at rank 0, as client 0's
 abbrev pub AsksOperation : (old new : Admin) → Op → OutputLine → Type 0
 AsksOperation old new op line =
     (new.operations ≡ old.operations + 1) × (new.jobs ≡ old.jobs) × (new.sent ≡ old.sent)
@@ -111,7 +112,7 @@ DoesStoreUnder mode old new (store.Evict rank) line = Executes old new (Store (s
 DoesStoreUnder mode old new (store.Object name) line = Executes old new (Store (store.Object name)) line
 DoesStoreUnder mode old new store.Objects line = Executes old new (Store store.Objects) line
 
--- what a command does by these options: what it does in any script, but for these three
+-- what a command does under these options: only operations, requests and flushes differ from a script without them
 abbrev pub CarriesOut : Mode → (old new : Admin) → Command → OutputLine → Type 0
 CarriesOut mode old new (Operation op) line =
     MatchBool mode.asks (AsksOperation old new op line) (Executes old new (Operation op) line)
@@ -129,7 +130,7 @@ CarriesOut mode old new Subtrees line = Executes old new Subtrees line
 CarriesOut mode old new (Authority dir f) line = Executes old new (Authority dir f) line
 CarriesOut mode old new (Export command) line = Executes old new (Export command) line
 
--- a line with a command under these options: behind what it does the history is as short as they say
+-- a line with a command under these options; after it the history is as short as they say
 abbrev pub DoesUnder : Mode → (old new : Admin) → Command → OutputLine → Type 0
 DoesUnder mode old new command line =
     ThenForgets mode.history (λ middle. CarriesOut mode old middle command line) new

@@ -1,4 +1,4 @@
--- One line of a script, from its bytes to what is written of it.
+-- One line of a script, from its bytes to the text written for it.
 use Rattle.std.specs.Prelude.{◌≡◌, ◌⊎◌, ℕ, ◌-◌, ◌^◌, Bool, true, List, [], Option, Some, None, IfErr, Result, Ok, Err}
 use Rattle.std.specs.Io.KnownBytes.{Appends, Keeps}
 use Rattle.script_text.specs.declared.lines.Line.{Line}
@@ -11,16 +11,16 @@ use Rattle.admin_cli.specs.declared.faults.FaultKind.{FaultKind}
 use Rattle.admin_cli.specs.declared.faults.FaultKind.TheVariants.{NotCommand, TooLong, ReadFault, WriteFault, OutOfMemory}
 use Rattle.admin_cli.specs.Scripts.{Doing, text_of, DoesLine, LacksLine, LacksMemory, NeverStarts, RunsInput, RunsLine, StopsAt}
 
--- a line before it is printed: the line to print, if it prints one, that it is no command, or want of memory for what
--- is kept of it
+-- a line before it is printed: the line to print, if it prints one; or that it isn't a command; or that memory of the
+-- script's own was refused
 abbrev pub AnswersLine : (Does : Doing) → (old new : Admin) → Line → Result (Option OutputLine) FaultKind → Type 0
 AnswersLine Does old new found (Ok None) = DoesLine Does old new found []
 AnswersLine Does old new found (Ok (Some printed)) = DoesLine Does old new found (text_of printed)
 AnswersLine Does old new found (Err kind) =
     ((found ≡ line.NotCommand) × (kind ≡ NotCommand) × (new ≡ old)) ⊎ (LacksLine old new found × (kind ≡ OutOfMemory))
 
--- what is written of a line: all its text, for want of memory for one that takes some nothing, and at a write fault a
--- beginning
+-- the text written for a line: all of it; nothing, if there is no memory for the text of a line that takes some; or a
+-- beginning, at a write fault
 abbrev pub Prints : (before after : Option (List ℕ)) → OutputLine → Result (Unit {0}) FaultKind → Type 0
 Prints before after printed (Ok done) = Appends before after (text_of printed)
 Prints before after printed (Err OutOfMemory) = Keeps before after × TakesText printed
@@ -29,18 +29,18 @@ Prints before after printed (Err NotCommand) = ⊥
 Prints before after printed (Err TooLong) = ⊥
 Prints before after printed (Err ReadFault) = ⊥
 
--- one line that was read: its text is that of what it prints; or why it ends the script, and what it leaves
+-- one line that was read: its text is that of the line that it prints; or it ends the script, for this reason
 abbrev pub DoesBytes : (Does : Doing) → (old new : Admin) → List ℕ → Result (Option OutputLine) FaultKind → Type 0
 DoesBytes Does old new bytes (Ok None) = RunsLine Does old new bytes []
 DoesBytes Does old new bytes (Ok (Some printed)) = RunsLine Does old new bytes (text_of printed)
 DoesBytes Does old new bytes (Err kind) =
     StopsAt Does old new bytes kind [] × ((new ≡ old) ⊎ LacksMemory Does old new bytes)
 
--- a script that ended with a read fault: its reader has failed, or its lines were more than 64 bits count
+-- if a script ended with a read fault, its reader has failed, or its lines were more than 64 bits count
 abbrev pub HasReaderFailed : Bool → Result (Unit {0}) ScriptFault → Type 0
 HasReaderFailed failed result =
     IfErr result (λ fault. fault.kind ≡ ReadFault → (failed ≡ true) ⊎ (fault.line ≡ 2 ^ 64 - 1))
 
--- lines were run after all memory for reading was taken; or none was
+-- lines were run after all memory for reading was taken; or that memory was refused
 abbrev pub RunsOrNot : (Does : Doing) → Admin → (known before after : Option (List ℕ)) → Result (Unit {0}) ScriptFault → Type 0
 RunsOrNot Does old known before after result = RunsInput Does old known before after result ⊎ NeverStarts before after result

@@ -1,4 +1,4 @@
--- What a rank's own turn does, and the line that it prints.
+-- A rank's own turn, and the line that it prints.
 use Rattle.std.specs.Prelude.{◌≡◌, Option, Some, None, Result, Ok, Err}
 use Rattle.mds_types.specs.declared.ids.Ino.{Ino}
 use Rattle.mds_types.specs.declared.ids.Rank.{Rank}
@@ -17,7 +17,7 @@ use Rattle.admin_cli.specs.Admin.{Admin}
 use Rattle.admin_cli.specs.ExportLines.{CopiesNoBytes, ImportsLine, MakesNoRoom, SendsLine}
 use Rattle.admin_cli.specs.StepLines.{DoesEvent}
 
--- what came of a step, by the line that its own command prints; no command of a step of these prints another one
+-- the result of a step, from the line that its command prints; such commands print no other lines than these
 abbrev pub came_of : OutputLine → OwnResult
 came_of (Reply client tid place first reply) = came.Nothing
 came_of (Forwarded rank) = came.Nothing
@@ -39,11 +39,11 @@ came_of (History length) = came.Nothing
 came_of (Refused refusal) = came.Refused refusal
 came_of (Errno errno) = came.Nothing
 
--- the line of a step that was made: what it was, at which leaf, and what came of it
+-- the line of a step that was made: which step it was, at which leaf, and its result
 abbrev pub own_line_of : OwnStep → Ino → Fragment → OutputLine → OutputLine
 own_line_of step dir f shown = Own (record { step = step; ino = dir; frag = f; result = came_of shown })
 
--- what a step of a rank's own is called, and the root or the leaf that it is made at
+-- the name of a rank's own step, and the root or the leaf that it concerns
 abbrev pub IsCalled : Event → OwnStep → Ino → Fragment → Type 0
 IsCalled (Arrive rank request) step dir f = ⊥
 IsCalled (Serve rank) step dir f = ⊥
@@ -64,12 +64,12 @@ IsCalled (Import ino frag bytes) step dir f = (step ≡ own.Import) × (dir ≡ 
 IsCalled (Finish ino frag) step dir f = (step ≡ own.Finish) × (dir ≡ ino) × (f ≡ frag)
 IsCalled (Cancel ino frag) step dir f = (step ≡ own.Cancel) × (dir ≡ ino) × (f ≡ frag)
 
--- a step was made, and is shown so
+-- a step was made, and this is its line
 abbrev pub MakesOne : (old new : Admin) → OwnStep → Ino → Fragment → Event → OutputLine → Type 0
 MakesOne old new step dir f event line =
     (shown : OutputLine) × DoesEvent old new event shown × (line ≡ own_line_of step dir f shown)
 
--- the step that a rank proposed was made as its own command makes it, an Import with the bytes that are kept for it
+-- the step that a rank proposed was made as its command makes it; an Import with the bytes kept for it
 abbrev pub MakesStep : (old new : Admin) → Event → OutputLine → Type 0
 MakesStep old new (Arrive rank request) line = ⊥
 MakesStep old new (Serve rank) line = ⊥
@@ -92,20 +92,20 @@ MakesStep old new (Import dir f bytes) line =
 MakesStep old new (Finish dir f) line = MakesOne old new own.Finish dir f (Finish dir f) line
 MakesStep old new (Cancel dir f) line = MakesOne old new own.Cancel dir f (Cancel dir f) line
 
--- what the rank proposed was done: there was no step, or it was made, or the proposal was refused
+-- there was no step to make; or the proposed step was made; or the proposal was refused
 abbrev pub OwnLine : (old new : Admin) → Result (Option Event) Refusal → OutputLine → Type 0
 OwnLine old new (Ok None) line = (new ≡ old) × (line ≡ Idle)
 OwnLine old new (Ok (Some event)) line = MakesStep old new event line
 OwnLine old new (Err refusal) line = (new ≡ old) × (line ≡ Refused refusal)
 
--- a rank's own turn: what it proposes is done
+-- a rank's own turn: the step that it proposes is made
 pub record TakesTurn (old new : Admin) (rank : Rank) (line : OutputLine) : Type 0 where
   pub found : Result (Option Event) Refusal
   pub proposed : Proposes old.book.core rank found
   pub done : OwnLine old new found line
 
--- memory that the script itself needs for a step was refused: for room for the bytes of a Send, or for a copy of those
--- kept for an Import. No step was made
+-- memory of the script's own was refused for a step: room for the bytes of a Send, or a copy of the bytes for an
+-- Import. No step was made
 abbrev pub LacksForStep : (old new : Admin) → Event → Type 0
 LacksForStep old new (Arrive rank request) = ⊥
 LacksForStep old new (Serve rank) = ⊥

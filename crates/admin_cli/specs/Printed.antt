@@ -1,4 +1,4 @@
--- What a script prints, in words of one plain tree served by one thread.
+-- The output of a script, in words of one plain tree served by one thread.
 use Rattle.std.specs.Prelude.{◌≡◌, ◌⊎◌, ◌+◌, ◌++◌, ◌∷◌, [], ℕ, nat_eq, Bool, List, filter, flat_map, length, map, codes, Option, IfSome, Result, Err}
 use Rattle.std.specs.List.{starts_with}
 use Rattle.std.specs.Io.KnownBytes.{Appends}
@@ -16,20 +16,20 @@ use Rattle.script_output.specs.Texts.{reply_line}
 use Rattle.admin_cli.specs.declared.faults.ScriptFault.{ScriptFault}
 use Rattle.admin_cli.specs.declared.faults.FaultKind.TheVariants.{WriteFault}
 
--- the request that a line makes, if it makes one, where so many operations alone were read before: an operation alone is
--- client 0's, and its transaction number is how many there are with it
+-- the request that a line makes, if it makes one, after so many operations alone. An operation alone is client 0's; its
+-- transaction number is the number of operations alone so far, with this one
 abbrev pub request_of : ℕ → Line → List Request
 request_of count (line.Command (Operation op)) =
     record { client = 0; tid = count + 1; oldest = count + 1; op = op } ∷ []
 request_of count (line.Command (Asks rank request)) = request ∷ []
 request_of count other = []
 
--- how many operations alone were read with this line
+-- the number of operations alone so far, with this line
 abbrev pub counted_with : ℕ → Line → ℕ
 counted_with count (line.Command (Operation op)) = count + 1
 counted_with count other = count
 
--- the requests that lines make, where so many operations alone were read before
+-- the requests that lines make, after so many operations alone
 abbrev pub requests_of : ℕ → List (List ℕ) → List Request
 requests_of count [] = []
 requests_of count (bytes ∷ lines) = request_of count (line_of bytes) ++ requests_of (counted_with count (line_of bytes)) lines
@@ -38,7 +38,7 @@ requests_of count (bytes ∷ lines) = request_of count (line_of bytes) ++ reques
 abbrev pub receipt_line : Receipt → List ℕ
 receipt_line r = reply_line r.client r.tid r.place r.first r.reply
 
--- a line begins as those of replies do, and none else
+-- whether a line begins as those of replies do, and no others
 abbrev pub is_reply : List ℕ → Bool
 is_reply text = starts_with nat_eq text (codes "reply ")
 
@@ -46,10 +46,10 @@ is_reply text = starts_with nat_eq text (codes "reply ")
 abbrev pub ended_line : List ℕ → List ℕ
 ended_line text = text ++ codes "\n"
 
--- what is written of a script of these lines over a book that opened with this tree, had this history, and in which these
--- requests waited: whole lines, with a beginning of the next one at a write fault. Of those lines the ones that begin with
--- `reply ` are, in their order, the replies of one thread that serves one plain tree those requests and the ones that the
--- script's lines make
+-- the text written for a script of these lines, over a book that opened with this tree, had this history, and in which
+-- these requests waited. It is whole lines, and at a write fault a beginning of the next one. The lines that begin with
+-- `reply ` are, in their order, the replies of one thread that serves one plain tree those requests and the ones that
+-- the script's lines make
 pub record PrintsOneThread (limit : ℕ) (opening : Opening) (past : List Entry) (waited : List Request)
     (known before after : Option (List ℕ)) (result : Result (Unit {0}) ScriptFault) : Type 0 where
   pub lines : List (List ℕ)

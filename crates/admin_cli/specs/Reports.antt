@@ -1,4 +1,4 @@
--- What a run prints.
+-- The text that a run of `cephmeta serve` prints.
 use Rattle.std.specs.Prelude.{◌≡◌, ◌⊎◌, ℕ, Bool, true, false, List, [], ◌∷◌, ◌++◌, codes, IsSorted, Option, Result, Ok, Err}
 use Rattle.std.specs.Ordering.{nat_cmp}
 use Rattle.std.specs.Cmp.Lexicographic.{slice_cmp}
@@ -13,7 +13,7 @@ use Rattle.script_output.specs.Writing.{AppendsBeginning}
 use Rattle.admin_cli.specs.declared.workload.serving.ServeFault.{ServeFault}
 use Rattle.admin_cli.specs.declared.workload.serving.ServeFault.TheVariants.{Fault, Write}
 
--- paths stand in the order of their bytes
+-- paths are in the order of their bytes
 abbrev pub AreInOrder : List (List ℕ) → Type 0
 AreInOrder paths = IsSorted (slice_cmp nat_cmp) paths
 
@@ -27,24 +27,24 @@ abbrev pub head_text : ℕ → Bool → List ℕ
 head_text served true = codes "served " ++ decimal served ++ codes "\naudit ok\n"
 head_text served false = codes "served " ++ decimal served ++ codes "\naudit failed\n"
 
--- the text of a run after which so many were: its first lines, and paths in the order of their bytes
+-- the text of a run, after which so many requests were applied: its first lines, and paths in the order of their bytes
 pub record Reports (served : ℕ) (agrees : Bool) (text : List ℕ) : Type 0 where
   pub paths : List (List ℕ)
   pub in_order : AreInOrder paths
   pub whole : text ≡ head_text served agrees ++ path_lines paths
 
--- a book opened with the empty tree, whatever of its history is forgotten, and whatever was told before
+-- a book opened with the empty tree, whichever past is forgotten, and whichever stand-ins its history begins with
 abbrev pub OpensEmpty : KeptState → Type 0
 OpensEmpty book =
     (opening : Opening) × (opening.tree ≡ map.empty) × (past : List Entry) × StandsBehind opening past book
 
--- so it is of a sound book that opened with the empty tree
+-- the text of a run whose book opened with the empty tree
 pub record IsText (agrees : Bool) (text : List ℕ) : Type 0 where
   pub book : KeptState
   pub opening : OpensEmpty book
   pub reports : Reports (places_of book) agrees text
 
--- what is written: all of the text, at a write fault a beginning of it, and nothing where there is no text
+-- what is written: the whole text; at a write fault a beginning of it; and nothing if there is no text
 abbrev pub ServesOut : (before after : Option (List ℕ)) → Result (Unit {0}) ServeFault → Type 0
 ServesOut before after (Ok done) = (text : List ℕ) × IsText true text × Appends before after text
 ServesOut before after (Err (Fault number)) =

@@ -1,4 +1,4 @@
--- One step of a book, and the line that shows what it came to.
+-- One step of a book, and the line that shows its result.
 use Rattle.std.specs.Prelude.{◌≡◌, List, length, Result, Ok, Err}
 use Rattle.mds_types.specs.declared.entries.Entry.{Entry}
 use Rattle.cluster_core.specs.Opening.{Opening}
@@ -14,7 +14,7 @@ use Rattle.script_output.specs.declared.lines.OutputLine.TheVariants.{Reply as R
 use Rattle.admin_cli.specs.Admin.{Admin}
 
 -- one event led from a book to the next with this result, by all that the contract of a book's step says, whichever
--- opening tree and past the book goes on from; its store, which has all its objects in memory, tells no fault
+-- opening tree and past the book goes on from. Its store, which has all its objects in memory, reports no fault
 pub record IsStep (old new : KeptState) (result : Result Answer Refusal) (event : Event) : Type 0 where
   pub stepped : (opening : Opening) (past : List Entry) → StandsBehind opening past old
       → StepsBook (whole_of opening past old) (whole_of opening past new) result event
@@ -23,7 +23,7 @@ pub record IsStep (old new : KeptState) (result : Result Answer Refusal) (event 
   pub sound : IsSoundKept new
   pub faults : new.core.faults ≡ 0
 
--- the line that shows what a step came to
+-- the line that shows the result of a step
 abbrev pub shown_line : Result Answer Refusal → OutputLine
 shown_line (Ok Nothing) = NothingLine
 shown_line (Ok (Job job)) = JobLine job.number
@@ -33,12 +33,12 @@ shown_line (Ok (Forwarded rank)) = ForwardedLine rank
 shown_line (Ok Deferred) = DeferredLine
 shown_line (Err refusal) = Refused refusal
 
--- and what an arrival came to: the request waits, unless it was refused
+-- the line that shows the result of an arrival: the request waits, unless it was refused
 abbrev pub arrived_line : Result Answer Refusal → OutputLine
 arrived_line (Ok answer) = Queued
 arrived_line (Err refusal) = Refused refusal
 
--- one step of the book, and the line that shows what it came to
+-- one step of the book, and the line that shows its result
 pub record StepsLine (old new : KeptState) (event : Event) (line_of : Result Answer Refusal → OutputLine)
     (line : OutputLine) : Type 0 where
   pub result : Result Answer Refusal

@@ -32,7 +32,7 @@ use Rattle.admin_cli.specs.StepLines.{DoesEvent, IsStep, shown_line}
 
 -- ---- commits
 
--- the number of the job that a step began, if it began one, or why not
+-- the number of the job that a step began, if it began one, or the refusal
 abbrev pub number_in : Result Answer Refusal → Result (Option ℕ) Refusal
 number_in (Ok (Job job)) = Ok (Some job.number)
 number_in (Ok Nothing) = Ok None
@@ -42,7 +42,7 @@ number_in (Ok Deferred) = Ok None
 number_in (Ok (Sent bytes)) = Ok None
 number_in (Err refusal) = Err refusal
 
--- the job is kept, by its number
+-- the kept jobs after a step, with the job that it began, if it began one
 abbrev pub with_begun : map.FinMap nat_cmp Begun → Result Answer Refusal → map.FinMap nat_cmp Begun
 with_begun jobs (Ok (Job job)) = map.insert jobs job.number job
 with_begun jobs (Ok Nothing) = jobs
@@ -62,7 +62,7 @@ pub record BeginsJob (old new : Admin) (rank : Rank) (dir : Ino) (f : Fragment)
   pub numbered : number ≡ number_in result
   pub count : new.operations ≡ old.operations
 
--- its line
+-- the line of a commit that began
 abbrev pub begun_line : Result (Option ℕ) Refusal → OutputLine
 begun_line (Ok (Some number)) = JobLine number
 begun_line (Ok None) = NothingLine
@@ -77,7 +77,7 @@ abbrev pub is_over : Result Answer Refusal → Bool
 is_over (Ok answer) = true
 is_over (Err refusal) = refusal_number refusal == 11
 
--- a step that is to end the commit of this number, whose job is kept no longer once that is over
+-- a step that ends the commit of this number, or gives it up; once the commit is over, its job is no longer kept
 pub record EndsJob (old new : Admin) (number : ℕ) (event : Event) (line : OutputLine) : Type 0 where
   pub result : Result Answer Refusal
   pub stepped : IsStep old.book new.book result event
@@ -86,8 +86,8 @@ pub record EndsJob (old new : Admin) (number : ℕ) (event : Event) (line : Outp
   pub count : new.operations ≡ old.operations
   pub shown : line ≡ shown_line result
 
--- a kept job was encoded, and its commit ended; none of this number is told as a stale one, and want of memory for what
--- is encoded as a refusal: both leave all
+-- a kept job was encoded, and its commit ended. If no job of this number is kept, it is told as stale; if memory for
+-- the encoding is refused, as a refusal; in both cases nothing changed
 abbrev pub EndsKept : (old new : Admin) → ℕ → Option Begun → OutputLine → Type 0
 EndsKept old new number None line = (new ≡ old) × (line ≡ Refused StaleJob)
 EndsKept old new number (Some job) line =
@@ -96,7 +96,7 @@ EndsKept old new number (Some job) line =
 abbrev pub EndsLine : (old new : Admin) → ℕ → OutputLine → Type 0
 EndsLine old new number line = EndsKept old new number (map.get old.jobs number) line
 
--- a commit that began is ended at once; where nothing began, the line is that of the begin
+-- a commit that began is ended at once; if none began, the line is that of the begin
 abbrev pub CommitsAfter : (middle new : Admin) → Result (Option ℕ) Refusal → OutputLine → Type 0
 CommitsAfter middle new (Ok (Some number)) line = EndsLine middle new number line
 CommitsAfter middle new (Ok None) line = (new ≡ middle) × (line ≡ NothingLine)
@@ -108,7 +108,7 @@ pub record CommitsLine (old new : Admin) (rank : Rank) (dir : Ino) (f : Fragment
   pub begun : BeginsJob old middle rank dir f number
   pub rest : CommitsAfter middle new number line
 
--- ---- memory that the script itself needs for jobs
+-- ---- memory of the script's own for jobs
 
 -- a commit began, and there was no memory to keep its job
 pub record LosesJob (old new : Admin) (rank : Rank) (dir : Ino) (f : Fragment) : Type 0 where
@@ -118,11 +118,11 @@ pub record LosesJob (old new : Admin) (rank : Rank) (dir : Ino) (f : Fragment) :
   pub sent : new.sent ≡ old.sent
   pub count : new.operations ≡ old.operations
 
--- there was no memory to copy the kept job of a number; all is left
+-- there was no memory to copy the kept job of a number, and nothing changed
 abbrev pub CopiesNone : (old new : Admin) → ℕ → Type 0
 CopiesNone old new number = (new ≡ old) × ((job : Begun) × (map.get old.jobs number ≡ Some job))
 
--- a commit began, and there was no memory to copy its job, which was kept
+-- a commit began and its job was kept, but there was no memory to copy the job
 pub record BeginsAlone (old new : Admin) (rank : Rank) (dir : Ino) (f : Fragment) : Type 0 where
   pub middle : Admin
   pub number : ℕ
@@ -134,8 +134,8 @@ LacksForCommit old new rank dir f = LosesJob old new rank dir f ⊎ BeginsAlone 
 
 -- ---- flushes
 
--- a flush led from a book to the next with this result, by all that its contract says; the store, which has all
--- its objects in memory, tells no fault
+-- a flush led from a book to the next with this result, by all that its contract says. The store, which has all its
+-- objects in memory, reports no fault
 pub record IsFlush (old new : KeptState) (result : Result (Unit {0}) Refusal) : Type 0 where
   pub cold : OnOk result ((opening : Opening) (past : List Entry) → StandsBehind opening past old
       → IsColdTree new.core.state.tree.objects (after_from old.core.state.tree.limit opening (past ++ old.history)))
@@ -152,12 +152,12 @@ abbrev pub flushed_line : Result (Unit {0}) Refusal → OutputLine
 flushed_line (Ok done) = Flushed
 flushed_line (Err refusal) = Refused refusal
 
--- a flush was refused since an export stands (refusal 18)
+-- a flush was refused since an export exists (refusal 18)
 abbrev pub is_hindered : Result (Unit {0}) Refusal → Bool
 is_hindered (Ok done) = false
 is_hindered (Err refusal) = refusal_number refusal == 18
 
--- the book is flushed, and no job is kept any more, unless an export stands
+-- the book was flushed, and no job is kept any more, unless an export exists
 pub record FlushesLine (old new : Admin) (line : OutputLine) : Type 0 where
   pub count : new.operations ≡ old.operations
   pub result : Result (Unit {0}) Refusal
@@ -166,22 +166,22 @@ pub record FlushesLine (old new : Admin) (line : OutputLine) : Type 0 where
   pub flushed : IsFlush old.book new.book result
   pub shown : line ≡ flushed_line result
 
--- ---- looks at the store
+-- ---- looking at the store
 
--- what the object of a name is, or want of memory, of an object whose line takes some
+-- the line of the object of a name; or a refusal for want of memory, for an object whose line takes some
 abbrev pub LooksLine : Stored → List ℕ → OutputLine → Type 0
 LooksLine objects name line =
     ((shown : Shown) × IsLineOf (map.get objects name) shown × (line ≡ ObjectLine shown))
     ⊎ ((line ≡ Refused NoMemory) × MayTakeMemory (map.get objects name))
 
--- the names of all objects, or want of memory
+-- the names of all objects; or a refusal for want of memory
 abbrev pub ListsObjects : Stored → OutputLine → Type 0
 ListsObjects objects line = (line ≡ ObjectsLine (map.keys objects)) ⊎ (line ≡ Refused NoMemory)
 
 -- ---- a command on the store
 
--- memory that the script itself needs for a command on the store was refused: for a job that it keeps or copies, of no
--- step's
+-- memory of the script's own was refused for a command on the store: for a job that it keeps or copies; no step was
+-- refused for it
 abbrev pub LacksForStore : (old new : Admin) → StoreCommand → Type 0
 LacksForStore old new (CommitBegin rank dir f) = LosesJob old new rank dir f
 LacksForStore old new (CommitEnd number) = CopiesNone old new number

@@ -1,4 +1,4 @@
--- Printed text that waits to be written, and what is left of it by a writer's fault.
+-- Printed text that waits to be written, and the part of it that a write fault leaves.
 use Rattle.std.specs.Prelude.{◌≡◌, ◌⊎◌, ℕ, ◌<◌, nat_lt, if◌then◌else◌, List, [], ◌∷◌, ◌++◌, length, take, Option, Some, None, Result, Ok, Err}
 use Rattle.std.specs.Io.KnownBytes.{Appends}
 use Rattle.script_output.specs.declared.lines.OutputLine.{OutputLine}
@@ -12,7 +12,7 @@ use Rattle.admin_cli.specs.Left.{LeavesAdmin}
 use Rattle.admin_cli.specs.OneLine.{Prints}
 use Rattle.admin_cli.specs.Scripts.{Doing, RunsInput, text_of}
 
--- the script's line whose text has the byte at a place, by where the text of each line ends; 0, if none has it
+-- the script's line whose text has the byte at a place, from the ends of the lines' texts; 0 if none has it
 abbrev pub line_at : List Mark → ℕ → ℕ
 line_at [] place = 0
 line_at (mark ∷ marks) place = if nat_lt place mark.end then mark.line else line_at marks place
@@ -21,31 +21,31 @@ line_at (mark ∷ marks) place = if nat_lt place mark.end then mark.line else li
 abbrev pub IsEmpty : Waiting → Type 0
 IsEmpty waiting = (waiting.bytes.items ≡ []) × (waiting.marks.items ≡ [])
 
--- what a line of the script prints stands behind what waits
+-- the text that a line of the script prints was put behind the waiting text
 pub record PutsLine (old new : Waiting) (line : ℕ) (printed : OutputLine) : Type 0 where
   pub bytes : new.bytes.items ≡ old.bytes.items ++ text_of printed
   pub marks : new.marks.items ≡ old.marks.items
       ++ record { line = line; end = length (old.bytes.items ++ text_of printed) } ∷ []
 
--- a part of what waits was written, and the fault tells the line whose text broke off
+-- a part of the waiting text was written, and the fault names the line whose text broke off
 pub record Breaks (waiting : Waiting) (before after : Option (List ℕ)) (fault : ScriptFault) : Type 0 where
   pub place : ℕ
   pub short : place < length waiting.bytes.items
   pub written : Appends before after (take place waiting.bytes.items)
   pub told : fault ≡ record { line = line_at waiting.marks.items place; kind = WriteFault }
 
--- what waited was written, all of it or up to a fault
+-- the waiting text was written, all of it or up to a fault
 abbrev pub WritesOut : (old new : Waiting) → (before after : Option (List ℕ)) → Result (Unit {0}) ScriptFault → Type 0
 WritesOut old new before after (Ok done) = IsEmpty new × Appends before after old.bytes.items
 WritesOut old new before after (Err fault) = IsEmpty new × Breaks old before after fault
 
--- so, or it waits on
+-- the waiting text was written so, or it still waits
 abbrev pub MayFlush : (old new : Waiting) → (before after : Option (List ℕ)) → Result (Unit {0}) ScriptFault → Type 0
 MayFlush old new before after (Ok done) =
     ((new ≡ old) × (after ≡ before)) ⊎ (IsEmpty new × Appends before after old.bytes.items)
 MayFlush old new before after (Err fault) = IsEmpty new × Breaks old before after fault
 
--- what waited was written, and then a line that was printed, up to a fault of its own
+-- the waiting text was written, and then a printed line, up to a fault of its own
 pub record PrintsOwn (waiting : Waiting) (line : ℕ) (printed : OutputLine) (before after : Option (List ℕ))
     (fault : ScriptFault) : Type 0 where
   pub kind : FaultKind
@@ -54,7 +54,7 @@ pub record PrintsOwn (waiting : Waiting) (line : ℕ) (printed : OutputLine) (be
   pub flushed : Appends before middle waiting.bytes.items
   pub prints : Prints middle after printed (Err kind)
 
--- all that waits was written, and a line's text behind it
+-- the waiting text was written, and a line's text behind it
 abbrev pub PrintsApart : (old new : Waiting) → (line : ℕ) → OutputLine → (before after : Option (List ℕ))
     → Result (Unit {0}) ScriptFault → Type 0
 PrintsApart old new line printed before after (Ok done) =
@@ -62,14 +62,14 @@ PrintsApart old new line printed before after (Ok done) =
 PrintsApart old new line printed before after (Err fault) =
     IsEmpty new × (Breaks old before after fault ⊎ PrintsOwn old line printed before after fault)
 
--- a line's text was put behind what waits; or all was written, where there was no memory to let it wait
+-- a line's text was put behind the waiting text; or, if there was no memory for that, all was written
 abbrev pub PrintsOutput : (old new : Waiting) → (line : ℕ) → OutputLine → (before after : Option (List ℕ))
     → Result (Unit {0}) ScriptFault → Type 0
 PrintsOutput old new line printed before after (Ok done) =
     (PutsLine old new line printed × (after ≡ before)) ⊎ PrintsApart old new line printed before after (Ok done)
 PrintsOutput old new line printed before after (Err fault) = PrintsApart old new line printed before after (Err fault)
 
--- what a line of the script prints, if it prints anything
+-- the line of the script that was done prints this, if it prints anything
 abbrev pub PrintsAny : (old new : Waiting) → (line : ℕ) → Option OutputLine → (before after : Option (List ℕ))
     → Result (Unit {0}) ScriptFault → Type 0
 PrintsAny old new line None before after result = (new ≡ old) × (after ≡ before) × (result ≡ Ok tt)
@@ -82,20 +82,20 @@ pub record StopsUnprinted (old new : Waiting) (line : ℕ) (kind : FaultKind) (b
   pub kept : after ≡ before
   pub told : result ≡ Err (record { line = line; kind = kind })
 
--- a line that came to this, which is printed, if anything is; or the script ended at it before
+-- a line was done, and the text that it prints, if any, was printed; or the script ended at it before that
 abbrev pub PrintsOf : (CameTo : Result (Option OutputLine) FaultKind → Type 0) → (old new : Waiting) → (line : ℕ)
     → (before after : Option (List ℕ)) → Result (Unit {0}) ScriptFault → Type 0
 PrintsOf CameTo old new line before after result =
     ((printed : Option OutputLine) × CameTo (Ok printed) × PrintsAny old new line printed before after result)
     ⊎ ((kind : FaultKind) × CameTo (Err kind) × StopsUnprinted old new line kind before after result)
 
--- the line of a command is printed; or there was no memory for what the script keeps of it
+-- the line of a command was printed; or memory of the script's own was refused for it
 abbrev pub PrintsCame : {E : Type 0} → Result OutputLine E → (old new : Waiting) → (line : ℕ)
     → (before after : Option (List ℕ)) → Result (Unit {0}) ScriptFault → Type 0
 PrintsCame (Ok printed) old new line before after result = PrintsOutput old new line printed before after result
 PrintsCame (Err refused) old new line before after result = StopsUnprinted old new line OutOfMemory before after result
 
--- a script ended so; what waits is to be written, or a beginning of it, and then it is the whole script that did
+-- a script ended with this result, once the waiting text is written; if writing that breaks off, with the write fault
 pub record RunsWaiting (Does : Doing) (old : Admin) (waiting : Waiting) (known before middle : Option (List ℕ))
     (result : Result (Unit {0}) ScriptFault) : Type 0 where
   pub whole : (after : Option (List ℕ)) → Appends middle after waiting.bytes.items
@@ -103,7 +103,7 @@ pub record RunsWaiting (Does : Doing) (old : Admin) (waiting : Waiting) (known b
   pub broken : (after : Option (List ℕ)) (fault : ScriptFault) → Breaks waiting middle after fault
       → RunsInput Does old known before after (Err fault)
 
--- and so it left this administrator, once what waits is written
+-- and it left this administrator, once the waiting text is written
 pub record LeavesWaiting (Does : Doing) (old new : Admin) (waiting : Waiting) (known before middle : Option (List ℕ))
     (result : Result (Unit {0}) ScriptFault) : Type 0 where
   pub whole : (after : Option (List ℕ)) → Appends middle after waiting.bytes.items

@@ -1,4 +1,4 @@
-//! Commands on authorities: grants, the subtree map, and whose a leaf is.
+//! Commands on authorities: grants, the subtree map, and the authority of a leaf.
 ghost use Rattle.std.specs.Prelude.{◌≡◌, IfOk};
 ghost use Rattle.cluster_core.specs.declared.events.Event.TheVariants.{Grant};
 ghost use Rattle.admin_cli.specs.Authorities.{ListsSubtrees, TellsLine, roots_in};
@@ -14,7 +14,7 @@ use std::alloc::{AllocError, Global};
 use subtree_map::Subtrees;
 
 impl<S: Keep + Drop> Admin<S> {
-    // A rank lets a waiting request change fragments that are the rank's.
+    // A rank grants a waiting request those of the rank's fragments that it would change.
     #[inline(never)]
     pub(crate) fn grant(&mut self, alloc: Global, rank: Rank, client: u64, tid: u64) -> OutputLine
         ensures { DoesEvent (seen self.old) (seen self.new) (Grant rank client tid) result }
@@ -22,8 +22,7 @@ impl<S: Keep + Drop> Admin<S> {
         self.step(alloc, Event::Grant { rank, client, tid })
     }
 
-    // Which leaves have a rank of their own? Takes memory for the list of them, which is the script's own: nothing is
-    // refused.
+    // Lists the subtree roots with their ranks. The memory for the list is the script's own, so nothing is refused.
     #[inline(never)]
     pub(crate) fn subtrees(&self, alloc: Global) -> Result<OutputLine, AllocError>
         ensures { IfOk result (ListsSubtrees self.now.book.core.state) }
@@ -32,7 +31,7 @@ impl<S: Keep + Drop> Admin<S> {
         Ok(OutputLine::Subtrees(roots))
     }
 
-    // Which rank is the authority of a leaf?
+    // Tells which rank is the authority of a leaf.
     #[inline(never)]
     pub(crate) fn authority(&self, ino: Ino, frag: Frag) -> OutputLine
         ensures { TellsLine self.now.book.core.state ino frag result }

@@ -1,5 +1,5 @@
-//! What the options of a script change: a request is brought to its answer by its own line, a flush is kept in a file,
-//! and a beginning of the history is forgotten behind each line.
+//! What the options of a script change: the line of a request also gets its answer, a flush is kept in a file, and
+//! after each line old entries of the history are forgotten.
 ghost use Rattle.std.specs.Prelude.{◌≡◌, ◌+◌, ◌<◌, ◌≤◌, ◌^◌, IfOk, OnErr};
 ghost use Rattle.admin_cli.specs.Execute.{LacksForCommand};
 ghost use Rattle.admin_cli.specs.Modes.{AsksOperation, AsksRequest, CarriesOut, DoesStoreUnder, AsksNow, asked_line as line_of};
@@ -17,8 +17,8 @@ use std::alloc::{AllocError, Global};
 use std::thread::Threads;
 
 impl<S: Keep + Drop> Admin<S> {
-    /// Does what a command asks for by the options of the script, and answers the line to print; else as `execute`. Nothing
-    /// is forgotten.
+    /// Does what a command asks for under the options of the script, otherwise as `execute` does, and returns the line
+    /// to print. Forgets nothing.
     #[inline(never)]
     pub fn carry(
         &mut self,
@@ -49,7 +49,7 @@ impl<S: Keep + Drop> Admin<S> {
         }
     }
 
-    // A command on the store.
+    // Does a command on the store.
     fn carry_store(
         &mut self,
         rt: &(impl AllocGlobal + Threads + Sync),
@@ -72,8 +72,8 @@ impl<S: Keep + Drop> Admin<S> {
         }
     }
 
-    /// An operation alone is asked at rank 0, as client 0, with the number of such lines so far as its transaction
-    /// number and its oldest.
+    /// Asks an operation alone at rank 0, as client 0. Its transaction number, which is also its oldest, is the number
+    /// of such lines so far.
     #[inline(never)]
     pub(crate) fn ask_operation(&mut self, alloc: Global, op: Op) -> OutputLine
         requires { self.old.operations + 1 < 2 ^ 64 }
@@ -90,7 +90,7 @@ impl<S: Keep + Drop> Admin<S> {
         asked_line(self.ask(alloc, Rank(0), request))
     }
 
-    // A request is asked at a rank.
+    // Asks a request at a rank.
     #[inline(never)]
     fn ask_request(&mut self, alloc: Global, rank: Rank, request: Request) -> OutputLine
         ensures { AsksRequest (seen self.old) (seen self.new) rank request result }
@@ -98,8 +98,8 @@ impl<S: Keep + Drop> Admin<S> {
         asked_line(self.ask(alloc, rank, request))
     }
 
-    // A request comes in at a rank where nothing waits, and is brought to its answer. Where something waits, which no
-    // line leaves that asks so, it is refused.
+    // Asks a request at a rank. Nothing waits in the book, since each line of such a script leaves none. If something
+    // waits all the same, the request is refused.
     #[tactic(auto, using(crate::proofs::WaitLaws::none_from_all))]
     fn ask(&mut self, alloc: Global, rank: Rank, request: Request) -> Result<Receipt, Refusal>
         ensures count { self.new.operations ≡ self.old.operations }
@@ -116,7 +116,7 @@ impl<S: Keep + Drop> Admin<S> {
     }
 }
 
-// The line of what was asked.
+// The line of a request that was asked.
 fn asked_line(asked: Result<Receipt, Refusal>) -> OutputLine
     ensures { result ≡ line_of asked }
 {

@@ -11,31 +11,31 @@ use std::alloc::{AllocError, Global};
 /// What the command line asks for.
 #[derive(Clone, Copy, Debug, PartialEq, Eq)]
 pub enum Options<'a> {
-    /// A script over a cluster of so many ranks, each of which may cache so many fragments, where a directory may have
-    /// so many entries.
+    /// A script over a cluster. It has so many ranks, each may cache so many fragments, and a directory may have so
+    /// many entries.
     Script {
         ranks: u8,
         cache: u32,
         limit: Limit,
-        /// Whether a request is brought to its answer by its own line.
+        /// Whether the line of a request also gets its answer.
         asks: bool,
-        /// How many entries of the history stay behind each line; all of them where none is said.
+        /// How many entries of the history are kept after each line; all, if none is given.
         history: Option<u32>,
-        /// The file that has the tree, and takes it at each flush.
+        /// The file whose tree the script begins with, and which each flush is kept in.
         store: Option<&'a str>,
-        /// Whether standard error tells why a line was refused, deferred or forwarded, or is no command.
+        /// Whether standard error tells why a line was refused, deferred or forwarded, or isn't a command.
         explains: bool,
     },
     /// Clients that create files, served by rank threads.
     Serve {
         load: Load,
-        /// The file that has the empty tree that the load begins with, and takes the one that it leaves.
+        /// The file whose tree, an empty one, the load begins with, and in which the tree after the load is kept.
         store: Option<&'a str>,
     },
 }
 
-/// Reads the words of a command line, the program's own name first. An error is a text for the user with the status to
-/// exit with: 0 where help was asked for, and otherwise 2.
+/// Reads the words of a command line, the first of which is the program's name. An error is a text for the user with an
+/// exit status: 0 if help was asked for, otherwise 2.
 pub fn settings<'a>(alloc: Global, words: &'a [String]) -> Result<Options<'a>, Error>
     ensures { IfOk result AreInRange }
 {
@@ -46,7 +46,7 @@ pub fn settings<'a>(alloc: Global, words: &'a [String]) -> Result<Options<'a>, E
     Err(program.error(ErrorKind::InvalidValue, "a number is out of its range")?)
 }
 
-// What the words ask the program for; nothing where a number is out of its range, which clap has looked at.
+// The options that the words ask for. None if a number is out of its range, which clap has checked before.
 fn read_words<'a>(
     program: &mut Command<'a>,
     words: &'a [String],
@@ -60,7 +60,7 @@ fn read_words<'a>(
     Ok(of_serve(&matches))
 }
 
-// The options of the subcommand `script`, where its numbers are in their ranges.
+// The options of the subcommand `script`, if its numbers are in their ranges.
 fn of_script<'a>(script: &ArgMatches<'a>) -> Option<Options<'a>>
     ensures { IfSome result AreInRange }
 {
@@ -81,7 +81,7 @@ fn of_script<'a>(script: &ArgMatches<'a>) -> Option<Options<'a>>
     None
 }
 
-// Those of the subcommand `serve`, where it was given with numbers in their ranges.
+// The options of the subcommand `serve`, if it was given and its numbers are in their ranges.
 fn of_serve<'a>(matches: &ArgMatches<'a>) -> Option<Options<'a>>
     ensures { IfSome result AreInRange }
 {
@@ -101,7 +101,7 @@ fn of_serve<'a>(matches: &ArgMatches<'a>) -> Option<Options<'a>>
     None
 }
 
-// What a line of a script may be.
+// The help for the lines of a script.
 const LINES: &str = "\
 A line of the script is one of these, and one line is printed for each. Directories are named by
 inode number in hexadecimal, the root is 1; a fragment is written as its bits and a star, as 01*.
@@ -149,7 +149,7 @@ fn program<'a>(alloc: Global) -> Result<Command<'a>, AllocError> {
         .subcommand(serve(alloc)?)
 }
 
-// Its subcommand `script`.
+// The subcommand `script`.
 fn script<'a>(alloc: Global) -> Result<Command<'a>, AllocError> {
     Command::new(alloc, "script")
         .about("Runs a script from standard input over a cluster: an empty tree, or that of a file")
@@ -163,7 +163,7 @@ fn script<'a>(alloc: Global) -> Result<Command<'a>, AllocError> {
         .arg(file(alloc))
 }
 
-// What follows the options of `serve`.
+// The help behind the options of `serve`.
 const SERVE_HELP: &str = "\
 Each client has a directory, c0 for the first. The ranks' threads create f0, f1 and so on in each and
 commit it after each tenth, while the workers encode what is committed. Then it prints how many requests
@@ -172,7 +172,7 @@ were served, whether all replies agree with the history, and every path.
 Example:
   cephmeta serve --ranks 4 --workers 4 --clients 8 --creates 50";
 
-// Its subcommand `serve`.
+// The subcommand `serve`.
 fn serve<'a>(alloc: Global) -> Result<Command<'a>, AllocError> {
     Command::new(alloc, "serve")
         .about("Serves clients that create files by several threads, and audits the replies")

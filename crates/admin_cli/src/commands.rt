@@ -16,8 +16,8 @@ use script_text::Command;
 use std::alloc::{AllocError, Global};
 use std::thread::Threads;
 
-/// A book, how many lines with an operation alone were read for it, the jobs that were begun, and the bytes that
-/// exports sent.
+/// A book with all that a script knows beside it: how many lines with an operation alone were read, the jobs that were
+/// begun, and the bytes that exports sent.
 #[derive(Drop)]
 pub struct Admin<S: Keep + Drop> {
     pub(crate) book: Book<S>,
@@ -44,14 +44,14 @@ impl<S: Keep + Drop> Admin<S> {
         }
     }
 
-    /// The book, to be looked at.
+    /// The book.
     pub fn book(&self) -> &Book<S>
         ensures { result.now ≡ self.now.book }
     {
         &self.book
     }
 
-    /// The book.
+    /// Returns the book.
     pub fn into_book(self) -> Book<S>
         ensures { result ≡ self.book }
     {
@@ -66,8 +66,8 @@ impl<S: Keep + Drop> Admin<S> {
         book
     }
 
-    /// Forgets behind a line what the script's options say. Takes memory for kept replies alone, and forgets less where it
-    /// is refused.
+    /// Forgets, after a line, what the options of the script say. It takes memory for kept replies alone, and forgets
+    /// less if that memory is refused.
     #[inline(always)]
     pub(crate) fn forget(&mut self, mode: &Mode)
         ensures count { self.new.operations ≡ self.old.operations }
@@ -78,7 +78,7 @@ impl<S: Keep + Drop> Admin<S> {
         }
     }
 
-    /// So behind a line that was done.
+    /// Forgets so after a line that was done.
     #[inline(always)]
     pub(crate) fn forget_behind(&mut self, mode: &Mode, came: &Result<OutputLine, AllocError>)
         ensures count { self.new.operations ≡ self.old.operations }
@@ -90,12 +90,11 @@ impl<S: Keep + Drop> Admin<S> {
         }
     }
 
-    /// Does what a command asks for, and answers the line to print. So many lines were read that one more fits 64 bits.
-    /// An error is want of memory that the script itself needs: for a job that it keeps, once the step has given it;
-    /// for room to keep the bytes of an export, or for a copy of what it kept, before the step; or for a list of the
-    /// subtree map. No step's answer is lost by it but a job that it was to keep. It isn't put into its caller, so that
-    /// an operation, as most lines are, has no room to clear that only other commands need: `operate` does one by
-    /// itself.
+    /// Does what a command asks for, and returns the line to print. One more line still fits the 64-bit count of lines.
+    /// An error tells that memory of the script's own was refused: for a job that a step gave, for the bytes of an
+    /// export or a copy of them before its step, or for the list of the subtree map. No answer of a step is lost but a
+    /// job that was to be kept. The function isn't inlined: most lines are operations, and its caller would clear room
+    /// for all other commands. `operate` does an operation alone.
     #[inline(never)]
     pub fn execute(
         &mut self,
@@ -130,9 +129,9 @@ impl<S: Keep + Drop> Admin<S> {
         }
     }
 
-    /// An operation alone arrives at rank 0 as client 0, with the number of such lines so far as its transaction number
-    /// and its oldest, and is served there, unless it was refused. This and the next four are functions of their own:
-    /// else each line would clear the room for all that any of them needs.
+    /// An operation alone arrives at rank 0 as client 0. Its transaction number, which is also its oldest, is the
+    /// number of such lines so far. It is served there, unless its arrival was refused. This and the next four are
+    /// functions of their own, or each line would clear the room that any of them needs.
     #[inline(never)]
     pub fn operate(&mut self, alloc: Global, op: Op) -> Result<Answer, Refusal>
         requires { self.old.operations + 1 < 2 ^ 64 }
@@ -162,7 +161,7 @@ impl<S: Keep + Drop> Admin<S> {
         }
     }
 
-    // A request comes in at a rank.
+    // A request arrives at a rank.
     #[inline(never)]
     fn arrive(&mut self, alloc: Global, rank: Rank, request: Request) -> OutputLine
         ensures count { self.new.operations ≡ self.old.operations }
@@ -185,7 +184,7 @@ impl<S: Keep + Drop> Admin<S> {
         self.step(alloc, Event::Serve { rank })
     }
 
-    // A leaf of a directory is split.
+    // Splits a leaf of a directory.
     #[inline(never)]
     pub(crate) fn split(
         &mut self,
@@ -208,7 +207,7 @@ impl<S: Keep + Drop> Admin<S> {
         )
     }
 
-    // Leaves of a directory are merged.
+    // Merges leaves of a directory.
     #[inline(never)]
     pub(crate) fn merge(&mut self, alloc: Global, rank: Rank, ino: Ino, frag: Frag) -> OutputLine
         ensures { DoesEvent (seen self.old) (seen self.new) (Merge rank ino frag) result }
@@ -216,7 +215,7 @@ impl<S: Keep + Drop> Admin<S> {
         self.step(alloc, Event::Merge { rank, ino, frag })
     }
 
-    // One event. It is put into its callers, as the step of a book is: an event is large, and none is moved then.
+    // Makes a step of one event. It is inlined, as the step of a book is, since an event is large and would be moved.
     #[inline(always)]
     pub(crate) fn step(&mut self, alloc: Global, event: Event) -> OutputLine
         ensures { DoesEvent (seen self.old) (seen self.new) event result }
@@ -224,7 +223,7 @@ impl<S: Keep + Drop> Admin<S> {
         shown_line(self.step_book(alloc, event))
     }
 
-    // One event, and what it came to.
+    // Makes a step of one event, and returns its result.
     #[inline(always)]
     pub(crate) fn step_book(&mut self, alloc: Global, event: Event) -> Result<Answer, Refusal>
         ensures count { self.new.operations ≡ self.old.operations }
@@ -233,12 +232,12 @@ impl<S: Keep + Drop> Admin<S> {
         ensures stepped { IsStep self.old.book self.new.book result event }
     {
         let came = self.book.step(alloc, event);
-        // The contract of `store` says here that a store which has all its objects in memory tells no fault.
+        // The contract of `store` says here that a store with all its objects in memory reports no fault.
         let _ = self.book.cluster().store();
         came
     }
 
-    // The leaves of a directory.
+    // Lists the leaves of a directory.
     #[inline(never)]
     fn leaves(&self, alloc: Global, ino: Ino) -> OutputLine
         ensures { ListsLine self.now.book ino result }
@@ -250,7 +249,7 @@ impl<S: Keep + Drop> Admin<S> {
     }
 }
 
-// The line that shows what a step came to.
+// The line that shows the result of a step.
 #[inline(always)]
 pub(crate) fn shown_line(came: Result<Answer, Refusal>) -> OutputLine
     ensures { result ≡ line_of came }

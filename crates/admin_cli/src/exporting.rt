@@ -1,4 +1,4 @@
-//! Commands on the exports of subtrees. What an export sends is kept here, between its `send` and its `import`.
+//! Commands on the exports of subtrees. The bytes that an export sends are kept here from its `send` to its `import`.
 ghost use Rattle.std.specs.Prelude.{◌≡◌, IfOk, OnErr};
 ghost use Rattle.admin_cli.specs.ExportLines.{CopiesNoBytes, ExecutesExport, ImportsLine, LacksForExport, SendsLine, is_done};
 ghost use Rattle.admin_cli.specs.Admin.{seen};
@@ -53,8 +53,8 @@ impl<S: Keep + Drop> Admin<S> {
         }
     }
 
-    // `export send INO FRAG`: what the export hands over is kept. An error says that there was no room to keep it, so
-    // that nothing was sent.
+    // `export send INO FRAG`: keeps the bytes that the export sends. An error tells that there was no room for them,
+    // and nothing was sent.
     #[inline(never)]
     pub(crate) fn send(
         &mut self,
@@ -77,8 +77,8 @@ impl<S: Keep + Drop> Admin<S> {
         }
     }
 
-    // `export import INO FRAG`: the importer takes a copy of the kept bytes. Once it has them they are kept no longer.
-    // An error says that there was no memory to copy them.
+    // `export import INO FRAG`: the importer gets a copy of the kept bytes. After the import they are no longer kept.
+    // An error tells that there was no memory for the copy.
     #[inline(never)]
     pub(crate) fn import(
         &mut self,

@@ -29,8 +29,8 @@ impl fmt::Display for FaultKind {
     }
 }
 
-/// A script's end before that of its input: the line that was being read or answered, all lines counted from 1, and
-/// what happened there.
+/// Why a script ended before its input: the line that was being read or done, counted from 1 over all lines, and the
+/// kind of fault.
 #[derive(Clone, Copy, Debug, PartialEq, Eq, Error)]
 #[error("line {line}: {kind}")]
 pub struct ScriptFault {

@@ -1,4 +1,4 @@
-//! The jobs that a script has begun: each stays until it is over, for lines that end it.
+//! The jobs that a script has begun. Each is kept until its commit is over, so that a later line can end it.
 ghost use Rattle.std.specs.Prelude.{◌≡◌, OnOk, OnErr, option_copied};
 ghost use Rattle.std.specs.FinMap as map;
 
@@ -44,7 +44,7 @@ impl KeptJobs {
         self.jobs.get(&number)
     }
 
-    /// Keeps the job of a number no longer. Takes no memory.
+    /// Removes the job of a number. Takes no memory.
     pub fn forget(&mut self, number: u64)
         ensures { self.new ≡ map.remove self.old number }
     {

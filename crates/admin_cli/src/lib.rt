@@ -1,5 +1,5 @@
-//! The engine of the `cephmeta` program: its command line, the script that it runs over a cluster, and the load that it
-//! serves.
+//! The engine of the `cephmeta` program: its command line, the scripts that it runs over a cluster, and the load that
+//! it serves.
 #![tactic(auto)]
 
 mod authorities;

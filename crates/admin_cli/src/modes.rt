@@ -1,13 +1,13 @@
-//! How a script is run, beside what its lines say.
+//! The options of a script, beside its lines.
 
-/// What the options of a script ask for. Where none is set a script is run as it is written.
+/// What the options of a script ask for. If none is set, the script is run as it is written.
 #[derive(Clone, Copy, Debug, PartialEq, Eq)]
 pub struct Mode {
-    /// A request is brought to its answer by the line that makes it.
+    /// The line of a request also gets its answer.
     pub asks: bool,
-    /// The store has a file, which takes what a flush writes.
+    /// The store has a file, in which each flush is kept.
     pub keeps: bool,
-    /// How many entries of the history stay behind each line; all of them where none is said. The book forgets those
-    /// before, in bulk (`Book::forget`): fewer than twice as many stay.
+    /// How many entries of the history are kept after each line; all, if none is given. The book forgets older ones in
+    /// bulk (`Book::forget`), so it has fewer than twice as many.
     pub history: Option<u32>,
 }

@@ -1,4 +1,4 @@
-//! The line `own RANK`: a rank proposes a step of its own, and makes it.
+//! The line `own RANK`: a rank makes a step that it proposes.
 ghost use Rattle.std.specs.Prelude.{◌≡◌, IfOk, OnErr};
 ghost use Rattle.cluster_core.specs.Proposal.{IsOwnStep};
 ghost use Rattle.admin_cli.specs.OwnLines.{IsCalled, LacksForStep, LacksForTurn, MakesStep, TakesTurn, came_of, own_line_of};
@@ -12,9 +12,9 @@ use script_output::{OutputLine, OwnResult, OwnStep, OwnTurn};
 use std::alloc::{AllocError, Global};
 
 impl<S: Keep + Drop> Admin<S> {
-    /// A rank proposes a step of its own, and makes it, if there is one. What a Send hands over is kept, and its Import
-    /// takes a copy of it, as by the commands of exports. An error says that there was no memory for that, and no step
-    /// was made.
+    /// A rank makes the step that it proposes, if there is one. The bytes that a Send gives are kept, and an Import
+    /// gets a copy of them, as by the commands on exports. An error tells that there was no memory for the bytes, and
+    /// no step was made.
     #[inline(never)]
     pub(crate) fn own_turn(&mut self, alloc: Global, rank: Rank) -> Result<OutputLine, AllocError>
         ensures line { IfOk result (TakesTurn (seen self.old) (seen self.new) rank) }
@@ -61,7 +61,7 @@ impl<S: Keep + Drop> Admin<S> {
     }
 }
 
-// What a step of a rank's own is called, and the root or the leaf that it is made at.
+// The name of a rank's own step, and the root or the leaf that it concerns.
 #[derive(Clone, Copy)]
 struct StepName {
     step: OwnStep,
@@ -92,12 +92,12 @@ fn named(event: &Event) -> StepName
         Event::Import { ino, frag, .. } => StepName::of(OwnStep::Import, *ino, *frag),
         Event::Finish { ino, frag } => StepName::of(OwnStep::Finish, *ino, *frag),
         Event::Cancel { ino, frag } => StepName::of(OwnStep::Cancel, *ino, *frag),
-        // no rank proposes another
+        // no rank proposes any other step
         _ => unreachable!(),
     }
 }
 
-// The line of a step that was made, by the line that its own command prints.
+// The line of a rank's own step, from the line that the command for that step prints.
 fn told(name: &StepName, shown: OutputLine) -> OutputLine
     ensures { result ≡ own_line_of name.now.step name.now.ino name.now.frag shown }
 {
@@ -110,7 +110,7 @@ fn told(name: &StepName, shown: OutputLine) -> OutputLine
     })
 }
 
-// What came of a step, by that line.
+// The result of a step, from the line that its command prints.
 fn came_of(shown: &OutputLine) -> OwnResult
     ensures { result ≡ came_of shown.now }
 {

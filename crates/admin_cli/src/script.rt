@@ -35,13 +35,11 @@ use std::alloc::{AllocError, Global};
 use std::io::{BufRead, BufReader, Read, Write};
 use std::thread::Threads;
 
-/// Runs a script over a cluster with an empty tree, where a directory may have `limit` entries: for each line of the
-/// reader that is a command, one line is written with what became of it. A fault ends the script: what the lines before
-/// it printed has been written, and after a write fault a beginning of its own line, nothing else. It returns wherever
-/// its reader ends.
-///
-/// Of the lines that are written those that begin with `reply ` are the replies of one thread that serves one plain
-/// tree the requests that the script's lines make, one after the other.
+/// Runs a script over a new cluster with an empty tree, where a directory may have `limit` entries. For each line that
+/// is a command, one line with its result is written. A fault ends the script: all that the earlier lines printed is
+/// written, and at a write fault a beginning of the next line, nothing else. It returns wherever the reader ends. The
+/// written lines that begin with `reply ` are the replies of one thread that serves one plain tree the script's
+/// requests one after the other.
 pub fn run_script<H: AllocGlobal + Threads + Sync, R: Read + Drop, W: Write>(
     rt: &H,
     reader: R,
@@ -62,7 +60,7 @@ pub fn run_script<H: AllocGlobal + Threads + Sync, R: Read + Drop, W: Write>(
     run_new(rt, reader, writer, ranks, cache, limit, PLAIN, &Untold)
 }
 
-/// Runs a script as `run_script` does, under these options, and tells why a line was refused where somebody listens.
+/// Runs a script as `run_script` does, under these options, and explains each refused line if the teller listens.
 pub fn run_new<H: AllocGlobal + Threads + Sync, R: Read + Drop, W: Write, T: Tell>(
     rt: &H,
     reader: R,
@@ -88,7 +86,7 @@ pub fn run_new<H: AllocGlobal + Threads + Sync, R: Read + Drop, W: Write, T: Tel
             drop(book);
             ended
         }
-        // (dropped by name, as what has many parts is: docs/PROVING.md)
+        // (dropped by name, as a value with many parts is: docs/PROVING.md)
         none => {
             drop(none);
             Err(NO_MEMORY_AT_START)
@@ -96,18 +94,16 @@ pub fn run_new<H: AllocGlobal + Threads + Sync, R: Read + Drop, W: Write, T: Tel
     }
 }
 
-/// A script that has ended, and the book that it left.
+/// A script that has ended, and the book after it.
 #[derive(Drop)]
 pub struct Ran<S: Keep + Drop> {
     pub book: Book<S>,
     pub ended: Result<(), ScriptFault>,
 }
 
-/// Runs a script over a book, as `run_script` does over a new one, under these options: whether a request is brought to
-/// its answer by its own line, whether a flush is kept in the store's file, and how many entries of the history stay
-/// behind each line. The lines that begin with `reply ` are the replies of one thread, to the requests that waited in the
-/// book and those that the lines make. The book that it leaves has the history of that thread, with what it has forgotten:
-/// each line that was done is in it, also one that could not be printed.
+/// Runs a script over a book under these options, as `run_script` does over a new one. The lines that begin with `reply
+/// ` are the replies of one thread to the requests that waited in the book and those that the lines make. The returned
+/// book has the history of that thread, with the entries that it has forgotten: all that was done, printed or not.
 pub fn run_over<H, R, W, S, T>(
     rt: &H,
     reader: R,
@@ -204,15 +200,15 @@ fn run_input<R: Read + Drop, W: Write, S: Keep + Drop, T: Tell>(
     lines_ended
 }
 
-// The memory that reading needs was refused before the first line.
+// The memory for a book or for reading was refused before the first line.
 const NO_MEMORY_AT_START: ScriptFault = ScriptFault {
     line: 1,
     kind: FaultKind::OutOfMemory,
 };
 
-/// A reader that tells what it has read ahead.
+/// A reader that tells whether it has read ahead.
 trait ReadAhead: BufRead {
-    /// Whether the next line is at hand, so that no call for it waits for more bytes.
+    /// Whether the next line is already read, so that getting it never waits for more bytes.
     fn has_line(&self) -> bool;
 }
 
@@ -222,8 +218,8 @@ impl<R: Read> ReadAhead for BufReader<R> {
     }
 }
 
-// Runs the lines of a reader, one after the other. What they print waits to be written together, but not while the
-// reader waits for more. More lines than 64 bits count are a read fault.
+// Runs the lines of a reader one after the other. Printed lines are gathered and written together, and always before
+// the reader waits for more. If there are more lines than 64 bits count, that is a read fault.
 fn run_lines<R: ReadAhead, W: Write, S: Keep + Drop, T: Tell>(
     rt: &(impl AllocGlobal + Threads + Sync),
     reader: &mut R,
@@ -277,7 +273,7 @@ fn run_lines<R: ReadAhead, W: Write, S: Keep + Drop, T: Tell>(
     })
 }
 
-// Runs the line of this number, and puts what it prints behind what waits.
+// Runs the line of this number, and puts the line that it prints behind the waiting text.
 fn run_line<W: Write, S: Keep + Drop, T: Tell>(
     rt: &(impl AllocGlobal + Threads + Sync),
     line: u64,
@@ -294,7 +290,7 @@ fn run_line<W: Write, S: Keep + Drop, T: Tell>(
     ensures runs { PrintsOf (DoesBytes (DoesUnder mode.now) (seen admin.old) (seen admin.new) bytes.now) waiting.old waiting.new line
         (W.contents writer.old) (W.contents writer.new) result }
 {
-    // words about a line want the command that it was, so no shorter way is taken
+    // an explanation needs the command of the line, so no shorter way is taken
     if teller.listens() {
         return run_other(rt, line, bytes, admin, mode, waiting, writer, teller);
     }
@@ -312,7 +308,7 @@ fn run_line<W: Write, S: Keep + Drop, T: Tell>(
     }
 }
 
-// Makes an operation alone, as most lines ask for, and puts what it prints behind what waits.
+// Does an operation alone, as most lines ask for, and puts the line that it prints behind the waiting text.
 #[inline(always)]
 fn do_operation<W: Write, S: Keep + Drop>(
     alloc: Global,
@@ -341,7 +337,7 @@ fn do_operation<W: Write, S: Keep + Drop>(
     printed
 }
 
-// Brings an operation alone to its answer, and puts what it prints behind what waits.
+// Asks an operation alone until it is answered, and puts the line that it prints behind the waiting text.
 #[inline(never)]
 fn ask_operation<W: Write, S: Keep + Drop>(
     alloc: Global,
@@ -365,7 +361,7 @@ fn ask_operation<W: Write, S: Keep + Drop>(
     printed
 }
 
-// Runs a line that asks for no operation alone.
+// Runs a line that isn't an operation alone.
 #[inline(never)]
 fn run_other<W: Write, S: Keep + Drop, T: Tell>(
     rt: &(impl AllocGlobal + Threads + Sync),
@@ -389,7 +385,7 @@ fn run_other<W: Write, S: Keep + Drop, T: Tell>(
     do_line(rt, line, bytes, found, admin, mode, waiting, writer, teller)
 }
 
-// Does what a line asks for, and puts what it prints behind what waits. Its bytes are there for words about it.
+// Does what a line asks for, and puts the line that it prints behind the waiting text. Its bytes serve explanations.
 fn do_line<W: Write, S: Keep + Drop, T: Tell>(
     rt: &(impl AllocGlobal + Threads + Sync),
     line: u64,
@@ -430,7 +426,7 @@ fn do_line<W: Write, S: Keep + Drop, T: Tell>(
     }
 }
 
-// Puts what a command came to behind what waits.
+// Puts the line that shows the result of a command behind the waiting text.
 #[inline(always)]
 fn print_came<W: Write>(
     alloc: Global,
@@ -454,8 +450,8 @@ fn at(line: u64, kind: FaultKind) -> ScriptFault
     ScriptFault { line, kind }
 }
 
-// Puts what a line prints behind what waits. Where there is no memory for that, all is written, and then the line,
-// whose text may take none.
+// Puts the line that is printed behind the waiting text. If there is no memory for that, writes the waiting text and
+// then the line, whose text may take none.
 fn print<W: Write>(
     alloc: Global,
     line: u64,
@@ -472,7 +468,7 @@ fn print<W: Write>(
     print_apart(alloc, line, printed, waiting, writer)
 }
 
-// Writes all that waits, and then what a line prints.
+// Writes the waiting text, and then the line that is printed.
 #[inline(never)]
 fn print_apart<W: Write>(
     alloc: Global,

@@ -1,4 +1,4 @@
-//! What `cephmeta serve` runs.
+//! The subcommand `cephmeta serve`.
 ghost use Rattle.admin_cli.specs.Left.{BookGrows};
 ghost use Rattle.admin_cli.specs.Loads.{IsLoad};
 ghost use Rattle.admin_cli.specs.Reports.{OpensEmpty, ServesOut};
@@ -11,8 +11,8 @@ use std::io::Write;
 use std::sync::Wait;
 use std::thread::Threads;
 
-/// Serves a load, as `run_serve` does, and tells on standard error how far it has come, and how many steps the ranks made
-/// of their own, where somebody looks on.
+/// Serves a load, as `run_serve` does. If someone watches standard error, it shows there how many creates are done, and
+/// how many own steps the ranks made.
 pub fn serve<W: Write, H: Threads + Wait + Sync + AllocGlobal + Eprint>(
     rt: &H,
     writer: &mut W,
@@ -40,7 +40,7 @@ pub fn serve<W: Write, H: Threads + Wait + Sync + AllocGlobal + Eprint>(
     )
 }
 
-/// Serves a load so, over a book of as many ranks that opened with the empty tree, and hands the book back, as
+/// Serves a load so over a book of as many ranks that opened with the empty tree, and returns the book, as
 /// `run_over_book` does.
 pub fn serve_over<W, H, S>(
     rt: &H,

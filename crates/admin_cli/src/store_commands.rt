@@ -1,4 +1,4 @@
-//! Commands on the store: commits, fragment trees, the purge list, flushes, eviction, and looks at objects.
+//! Commands on the store: commits, fragment trees, the purge list, flushes, eviction, and looking at objects.
 ghost use Rattle.std.specs.Prelude.{◌≡◌, ℕ, cond, IfOk, List, OnErr, Option, Result};
 ghost use Rattle.std.specs.FinMap as map;
 ghost use Rattle.admin_cli.specs.Modes.{SavesLine};
@@ -18,8 +18,8 @@ use std::alloc::{AllocError, Global};
 use std::thread::Threads;
 
 impl<S: Keep + Drop> Admin<S> {
-    // Does what a command on the store asks for. Each part is a function of its own: a line that asks for none of it
-    // pays for none.
+    // Does what a command on the store asks for. Each part is a function of its own, so that a line costs only its own
+    // part.
     #[inline(never)]
     pub(crate) fn execute_store(
         &mut self,
@@ -51,8 +51,8 @@ impl<S: Keep + Drop> Admin<S> {
         }
     }
 
-    // A commit of a leaf begins, and its job is kept; its number, if there is one. An error says that a job came, and
-    // that there was no memory to keep it.
+    // Begins a commit of a leaf, keeps its job and returns the job's number, if there is a job. An error tells that a
+    // job began and that there was no memory to keep it.
     #[inline(never)]
     fn begin(
         &mut self,
@@ -96,7 +96,7 @@ impl<S: Keep + Drop> Admin<S> {
         Ok(begun_line(self.begin(alloc, rank, ino, frag)?))
     }
 
-    // `end J`: the kept job is encoded, and its commit ended. An error says that there was no memory to copy it.
+    // `end J`: encodes the kept job and ends its commit. An error tells that there was no memory to copy the job.
     #[inline(never)]
     fn end(&mut self, alloc: Global, number: u64) -> Result<OutputLine, AllocError>
         ensures line { IfOk result (EndsLine (seen self.old) (seen self.new) number) }
@@ -113,7 +113,7 @@ impl<S: Keep + Drop> Admin<S> {
         }
     }
 
-    // A step that is to end a commit. Once that is over, its job is kept no longer.
+    // Makes a step that ends a commit or gives it up. Once the commit is over, its job is no longer kept.
     #[inline(never)]
     fn end_job(&mut self, alloc: Global, number: u64, event: Event) -> OutputLine
         ensures { EndsJob (seen self.old) (seen self.new) number event result }
@@ -125,7 +125,7 @@ impl<S: Keep + Drop> Admin<S> {
         shown_line(ended)
     }
 
-    // `commit RANK INO FRAG`: a commit of a leaf begins, and is ended at once.
+    // `commit RANK INO FRAG`: begins a commit of a leaf, and ends it at once.
     #[inline(never)]
     fn commit(
         &mut self,
@@ -145,8 +145,8 @@ impl<S: Keep + Drop> Admin<S> {
         }
     }
 
-    // `flush`: all that isn't in the store is written, and no job is kept any more. While an export stands it is
-    // refused, and all is left.
+    // `flush`: writes all that the store doesn't have yet, and keeps no job any more. While an export exists it is
+    // refused, and nothing changes.
     #[inline(never)]
     fn flush(&mut self, rt: &(impl Threads + Sync), alloc: Global) -> OutputLine
         ensures { FlushesLine (seen self.old) (seen self.new) result }
@@ -157,7 +157,7 @@ impl<S: Keep + Drop> Admin<S> {
         }
     }
 
-    /// `flush`, where the store has a file that may refuse what was written: then it is kept by a later one.
+    /// `flush`, if the store has a file. The file may refuse what was written; then a later flush keeps it.
     #[inline(never)]
     pub(crate) fn save(&mut self, rt: &(impl Threads + Sync), alloc: Global) -> OutputLine
         ensures { SavesLine (seen self.old) (seen self.new) result }
@@ -171,7 +171,7 @@ impl<S: Keep + Drop> Admin<S> {
         }
     }
 
-    // The book is flushed, and no job is kept any more, unless an export stands.
+    // Flushes the book, and keeps no job any more, unless an export exists.
     #[inline(never)]
     pub(crate) fn flush_book(
         &mut self,
@@ -190,7 +190,7 @@ impl<S: Keep + Drop> Admin<S> {
         flushed
     }
 
-    // What is the object of this name?
+    // Shows the object of this name.
     #[inline(never)]
     fn object(&self, alloc: Global, name: &str) -> OutputLine
         ensures { LooksLine self.now.book.core.state.tree.objects name.now result }
@@ -201,7 +201,7 @@ impl<S: Keep + Drop> Admin<S> {
         }
     }
 
-    // Which objects has the store?
+    // Lists the objects of the store.
     #[inline(never)]
     fn objects(&self, alloc: Global) -> OutputLine
         ensures { ListsObjects self.now.book.core.state.tree.objects result }
@@ -213,7 +213,7 @@ impl<S: Keep + Drop> Admin<S> {
     }
 }
 
-// Whether a commit is over that was to be ended, or given up.
+// Whether the commit is over that a step was to end or to give up.
 fn is_over(ended: &Result<Answer, Refusal>) -> bool
     ensures { result ≡ is_over ended.now }
 {
@@ -223,7 +223,7 @@ fn is_over(ended: &Result<Answer, Refusal>) -> bool
     }
 }
 
-// Whether a flush was refused since an export stands.
+// Whether a flush was refused since an export exists.
 fn is_hindered(flushed: &Result<(), Refusal>) -> bool
     ensures { result ≡ hinders flushed.now }
 {
@@ -233,7 +233,7 @@ fn is_hindered(flushed: &Result<(), Refusal>) -> bool
     }
 }
 
-// The line of a commit that began, or of why not.
+// The line of a commit that began, or of its refusal.
 fn begun_line(number: Result<Option<u64>, Refusal>) -> OutputLine
     ensures { result ≡ line_of number }
 {
@@ -244,7 +244,7 @@ fn begun_line(number: Result<Option<u64>, Refusal>) -> OutputLine
     }
 }
 
-// A book is flushed.
+// Flushes a book.
 #[tactic(auto, using(crate::proofs::FlushedLaws::cold_after))]
 fn write_all<S: Keep + Drop>(
     rt: &(impl Threads + Sync),
@@ -254,7 +254,7 @@ fn write_all<S: Keep + Drop>(
     ensures { IsFlush book.old book.new result }
 {
     let flushed = flush(rt, alloc, book);
-    // The contract of `store` says here that a store which has all its objects in memory tells no fault.
+    // The contract of `store` says here that a store with all its objects in memory reports no fault.
     let _ = book.cluster().store();
     flushed
 }

@@ -1,4 +1,4 @@
-//! Words about a script's lines, beside what they print.
+//! Explanations of a script's lines, beside their output.
 ghost use Rattle.std.specs.Prelude.{◌≤◌, length};
 
 use cluster_core::Book;
@@ -9,12 +9,12 @@ use script_text::{Line, read_line};
 use std::alloc::{AllocError, Global};
 use std::fmt::Display;
 
-/// Who is told, in words, why a line was refused, deferred or forwarded, or is no command.
+/// Who is told, in words, why a line was refused, deferred or forwarded, or isn't a command.
 pub trait Tell {
-    /// Whether anybody listens. Where nobody does, no words are made.
+    /// Whether anybody listens. If nobody does, no explanations are made.
     fn listens(&self) -> bool;
 
-    /// Tells these words of the line of this number.
+    /// Tells this explanation of the line of this number.
     fn tell<D: Display>(&self, line: u64, words: &D);
 }
 
@@ -31,14 +31,14 @@ impl Tell for Untold {
     fn tell<D: Display>(&self, _line: u64, _words: &D) {}
 }
 
-/// Words are told on standard error, a line each.
+/// Explanations are written to standard error, each as a line.
 #[derive(Drop)]
 pub struct Aloud<'a, R: Eprint> {
     rt: &'a R,
 }
 
 impl<'a, R: Eprint> Aloud<'a, R> {
-    /// On the standard error of this runtime.
+    /// Explains on the standard error of this runtime.
     pub fn new(rt: &'a R) -> Aloud<'a, R> {
         Aloud { rt }
     }
@@ -54,8 +54,7 @@ impl<'a, R: Eprint> Tell for Aloud<'a, R> {
     }
 }
 
-/// Tells whoever listens why a line that is a command came to what it printed, where that wants a reason. The book is as
-/// the line left it.
+/// Tells whoever listens why a command printed its line, if that needs a reason. The book is as the line left it.
 #[inline(never)]
 pub(crate) fn tell_reason<S: Keep + Drop, T: Tell>(
     alloc: Global,
@@ -73,7 +72,7 @@ pub(crate) fn tell_reason<S: Keep + Drop, T: Tell>(
     let Ok(printed) = came else {
         return;
     };
-    // the command itself was used up by what it did
+    // doing the command consumed it, so it is read again
     match read_line(alloc, bytes) {
         Ok(Line::Command(command)) => {
             if let Some(why) = reason(book, &command, printed) {
@@ -85,7 +84,7 @@ pub(crate) fn tell_reason<S: Keep + Drop, T: Tell>(
     }
 }
 
-/// Tells whoever listens why a line is no command.
+/// Tells whoever listens why a line isn't a command.
 #[inline(never)]
 pub(crate) fn tell_misread<T: Tell>(line: u64, bytes: &[u8], teller: &T) {
     if teller.listens() {

@@ -1,4 +1,4 @@
-//! What a script prints, before it is written.
+//! Printed lines of a script, before they are written.
 ghost use Rattle.std.specs.Prelude.{◌≡◌, ◌<◌, ◌++◌, ◌∷◌, OnOk, OnErr, IfOk, [], length, vec_len, vec_capacity};
 ghost use Rattle.script_output.specs.Lines.{line_of_reply};
 ghost use Rattle.admin_cli.specs.StepLines.{shown_line};
@@ -11,31 +11,31 @@ use script_output::{Heading, OutputLine, push_reply_line, write_most_of};
 use std::alloc::{AllocError, Global};
 use std::io::Write;
 
-/// Where the text of a line of the script ends, among all that waits.
+/// Where the text of a line of the script ends in the waiting text.
 #[derive(Clone, Copy)]
 pub struct Mark {
     line: u64,
     end: usize,
 }
 
-/// Printed lines that wait to be written together, and the line of the script that printed each.
+/// Printed lines that wait to be written together, with the line of the script that printed each.
 #[derive(Drop)]
 pub struct Waiting {
     bytes: Vec<u8>,
     marks: Vec<Mark>,
 }
 
-// So many bytes are written, whether or not further lines are at hand.
+// So many waiting bytes are written, even if further lines are at hand.
 const ENOUGH: usize = 8192;
 
-// Room for the line that comes to be printed when there are nearly enough, so that nothing is moved.
+// Room for one more line when there are nearly that many bytes, so that the text never moves.
 const ROOM: usize = ENOUGH + 512;
 
-// So many lines are written too.
+// So many waiting lines are written, too.
 const MANY: usize = 512;
 
 impl Waiting {
-    /// Nothing. Takes the memory that usual lines need.
+    /// Nothing waits. Takes the memory that usual lines need.
     pub fn new(alloc: Global) -> Result<Waiting, AllocError>
         ensures { IfOk result (λ waiting. IsEmpty waiting) }
     {
@@ -45,7 +45,7 @@ impl Waiting {
         })
     }
 
-    /// Puts what the script's line of this number prints behind what waits, unless there is no memory for it.
+    /// Puts the line that the script's line of this number prints behind the waiting text, if there is memory for it.
     pub fn put(&mut self, alloc: Global, line: u64, printed: &OutputLine) -> Result<(), AllocError>
         ensures ok { OnOk result (PutsLine self.old self.new line printed.now) }
         ensures err { OnErr result ((self.new.bytes.items ≡ self.old.bytes.items)
@@ -57,8 +57,8 @@ impl Waiting {
         Ok(())
     }
 
-    /// Puts the line that shows what a step came to behind what waits, unless there is no memory for it. Most are replies,
-    /// and a reply is printed where it stands: each hand that it goes through copies it.
+    /// Puts the line that shows the result of a step behind the waiting text, if there is memory for it. Most results
+    /// are replies. A reply is printed from where it is, since each call that it is moved through copies it.
     pub fn put_step(
         &mut self,
         alloc: Global,
@@ -83,7 +83,7 @@ impl Waiting {
         }
     }
 
-    // The same, with room for all that a step may come to: a function of its own, else each line would clear that room.
+    // The same, with room for any result of a step. It is a function of its own, or each line would clear that room.
     #[inline(never)]
     fn put_any_step(
         &mut self,
@@ -118,7 +118,7 @@ impl Waiting {
         }
     }
 
-    // Puts the line of a reply behind what waits.
+    // Puts the line of a reply behind the waiting text.
     #[inline(always)]
     fn put_reply(&mut self, line: u64, heading: &Heading, reply: &Reply) -> Result<(), AllocError>
         ensures ok { OnOk result (PutsLine self.old self.new line (line_of_reply heading.now reply.now)) }
@@ -131,7 +131,7 @@ impl Waiting {
         Ok(())
     }
 
-    // The text of this line ends here. There is room for one mark more.
+    // Marks that the text of this line ends here. There is room for one more mark.
     #[inline(always)]
     fn mark(&mut self, line: u64)
         requires { vec_len self.old.marks < vec_capacity self.old.marks }
@@ -143,7 +143,7 @@ impl Waiting {
         self.marks.push_reserved(Mark { line, end });
     }
 
-    // Puts a line behind what waits that is needed no longer.
+    // Puts a line behind the waiting text, and drops the line.
     #[inline(never)]
     fn put_own(&mut self, alloc: Global, line: u64, printed: OutputLine) -> Result<(), AllocError>
         ensures ok { OnOk result (PutsLine self.old self.new line printed) }
@@ -155,7 +155,7 @@ impl Waiting {
         put
     }
 
-    /// Writes what waits, unless further lines are at hand and it isn't enough yet.
+    /// Writes the waiting text, unless further lines are at hand and there is still too little of it.
     pub fn settle<W: Write>(
         &mut self,
         is_more_at_hand: bool,
@@ -169,8 +169,8 @@ impl Waiting {
         self.flush(writer)
     }
 
-    /// Writes what waits. A fault is that of the script's line whose text was not written to its end, and nothing waits
-    /// any longer.
+    /// Writes the waiting text. A fault names the script's line whose text wasn't written to its end. Nothing waits
+    /// afterwards.
     pub fn flush<W: Write>(&mut self, writer: &mut W) -> Result<(), ScriptFault>
         ensures { WritesOut self.old self.new (W.contents writer.old) (W.contents writer.new) result }
     {
@@ -190,7 +190,7 @@ impl Waiting {
     }
 }
 
-// The line whose text has the byte at a place; 0, if none has it.
+// The line whose text has the byte at a place; 0 if no line has it.
 fn line_at(marks: &[Mark], place: usize) -> u64
     ensures { result ≡ line_at marks.now place }
 {
@@ -202,7 +202,7 @@ fn line_at(marks: &[Mark], place: usize) -> u64
     0
 }
 
-// What stands before a reply on its line.
+// The beginning of a reply's line, before the reply itself.
 fn heading(client: u64, tid: u64, place: usize, is_first: bool) -> Heading
     ensures { result ≡ record { client = client; tid = tid; place = place; first = is_first } }
 {

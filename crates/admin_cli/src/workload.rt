@@ -1,5 +1,5 @@
-//! What `cephmeta serve` does: clients whose directories are made, rank threads that create files in them and commit as
-//! they go, and the listing of the tree that they leave, printed with the outcome of the audit.
+//! The load of `cephmeta serve`: a directory is made for each client, rank threads create files there and commit, and
+//! then the tree is listed and printed with the result of the audit.
 
 mod handing;
 mod listing;

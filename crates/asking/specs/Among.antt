@@ -1,4 +1,4 @@
--- A request is asked where others wait: these are answered first.
+-- A request is asked where others wait: the others are answered first.
 use Rattle.std.specs.Prelude.{◌≡◌, ◌⊎◌, List, Result, Ok, Err}
 use Rattle.mds_types.specs.declared.ids.Rank.{Rank}
 use Rattle.mds_types.specs.declared.refusals.Refusal.{Refusal}
@@ -11,7 +11,7 @@ use Rattle.asking.specs.Drain.{IsStopped}
 use Rattle.asking.specs.Reached.{ServesWaiting}
 use Rattle.cluster_core.specs.declared.receipts.Receipt.{Receipt}
 
--- others were answered by these replies, and none waits
+-- the others were answered with these replies, and nothing waits any more
 pub record IsDrained (old mid : BookState) (others : List Receipt) : Type 0 where
   pub served : ServesWaiting old mid others
   pub sound : IsSoundBook mid
@@ -19,14 +19,14 @@ pub record IsDrained (old mid : BookState) (others : List Receipt) : Type 0 wher
   pub same_opening : mid.opening ≡ old.opening
   pub none : NoneWaits mid.core.state.inboxes
 
--- then the request was asked
+-- the others were answered, then the request was asked
 pub record AsksThen (old new : BookState) (others : List Receipt) (rank : Rank) (request : Request)
     (result : Result Receipt Refusal) : Type 0 where
   pub mid : BookState
   pub drained : IsDrained old mid others
   pub asked : AsksAlone mid.core new.core mid.history new.history rank request result
 
--- or another is held up, behind those that were answered, and the request didn't come in
+-- another request can't be served, behind those that were answered, and the request that is asked didn't arrive
 pub record IsHeldUpBefore (old new : BookState) (others : List Receipt) (reason : Refusal) : Type 0 where
   pub served : ServesWaiting old new others
   pub stopped : IsStopped new.core reason

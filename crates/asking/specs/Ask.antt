@@ -1,4 +1,4 @@
--- A request is asked: it is brought to its answer by steps of a book alone.
+-- A request is asked: steps of a book alone give it its answer.
 use Rattle.std.specs.Prelude.{◌≡◌, ◌⊎◌, ◌<◌, ◌≤◌, ◌∷◌, [], ℕ, List, length, replicate, Result, Ok, Err}
 use Rattle.mds_types.specs.declared.entries.Entry.{Entry}
 use Rattle.mds_types.specs.declared.ids.Rank.{Rank}
@@ -23,14 +23,14 @@ use Rattle.cluster_core.specs.declared.receipts.Receipt.{Receipt}
 abbrev pub NoneWaits : Inboxes → Type 0
 NoneWaits inboxes = (rank : Rank) → waiting_at inboxes rank ≡ []
 
--- a request waits alone at a rank; all else is as it was before it came, but that it may have grants
+-- a request waits alone at a rank; all else is as it was before it arrived, but it may have grants
 pub record WaitsAlone (old new : State) (rank : Rank) (request : Request) : Type 0 where
   pub there : rank.0 < length old.inboxes
   pub kept : KeepsButGrants (record old { inboxes = with_waiting old.inboxes rank (request ∷ []) }) new request.client
       request.tid
 
--- a new request that was asked at a rank was applied at its master, as one that stands at the front there alone with all
--- the grants that it needs: one entry more, and the table's reply and tree
+-- a new request that was asked at a rank was applied at its master, as a request that waits there alone with all the
+-- grants that it needs: the history has one entry more, and the reply and the tree are those of the operation table
 pub record IsAppliedFor (old new : State) (past now : List Entry) (rank : Rank) (request : Request)
     (receipt : Receipt) : Type 0 where
   pub master : Rank
@@ -39,7 +39,7 @@ pub record IsAppliedFor (old new : State) (past now : List Entry) (rank : Rank) 
   pub kept : KeepsButGrants old granted request.client request.tid
   pub applied : IsApplied granted new past now master request [] (told_as receipt)
 
--- a new request lacks a number, of its master's or of the tree's counters
+-- a new request lacks a number: its master or a counter of the tree has none left
 pub record LacksNumberToServe (old : State) (past : List Entry) (rank : Rank) (request : Request) : Type 0 where
   pub is_new : IsNew past request.client request.tid request.oldest
   pub master : Rank
@@ -47,21 +47,21 @@ pub record LacksNumberToServe (old : State) (past : List Entry) (rank : Rank) (r
   pub lacks : LacksNumber (outcome_of old master request) (offer (supply_of old master)) NoInodes
       ⊎ LacksFor request.op old.tree
 
--- why a request has to wait: its reply can't be copied for want of memory, or it's new, and memory lacks, the store had
--- a fault, places lack, or it would change what is frozen
+-- why a request has to wait: there is no memory to copy its reply; or it is new, and memory was refused, the store had
+-- a fault, a rank lacks places, or it would change a frozen leaf
 abbrev pub WhyItWaits : (old new : Core) → List Entry → Request → Refusal → Type 0
 WhyItWaits old new past request reason =
     ((reason ≡ NoMemory) × ((place : ℕ) × IsKeptAt past request.client request.tid request.oldest place))
     ⊎ (IsNew past request.client request.tid request.oldest × WhyNotGranted old new request.op reason)
 
--- it waits on, alone
+-- the request still waits, alone
 pub record StillWaits (old new : State) (past now : List Entry) (request : Request) : Type 0 where
   pub same : now ≡ past
   pub at : Rank
   pub alone : WaitsAlone old new at request
 
--- why a request that was asked has no reply: there is no such rank; it's too old, or lacks a number, and has left; or it
--- waits on
+-- why a request that was asked has no reply: there is no such rank; it is too old or lacks a number, and has left; or
+-- it still waits
 abbrev pub RefusesAsk : (old new : Core) → (past now : List Entry) → Rank → Request → Refusal → Type 0
 RefusesAsk old new past now rank request reason =
     ((reason ≡ NotAuthority) × (length old.state.inboxes ≤ rank.0) × (new ≡ old) × (now ≡ past))
@@ -71,21 +71,21 @@ RefusesAsk old new past now rank request reason =
     × IsTakenOut old.state new.state past now rank request [])
     ⊎ (WhyItWaits old new past request reason × StillWaits old.state new.state past now request)
 
--- a request that is asked at a rank, where nothing waits, gets its reply: the history has it, applied now or before, and
--- nothing waits again; or it is refused. That it was forwarded or deferred is no answer
+-- a request that is asked at a rank where nothing waits gets its reply: the history has its entry, applied now or
+-- before, and nothing waits again; or it is refused. No answer says that it was forwarded or deferred
 abbrev pub AsksAlone : (old new : Core) → (past now : List Entry) → Rank → Request → Result Receipt Refusal → Type 0
 AsksAlone old new past now rank request (Ok receipt) =
     IsAppliedFor old.state new.state past now rank request receipt
     ⊎ IsRepeated old.state new.state past now rank request [] (told_as receipt)
 AsksAlone old new past now rank request (Err reason) = RefusesAsk old new past now rank request reason
 
--- nothing waits in inboxes as a new book has them, made or mounted
+-- nothing waits in the inboxes of a new book, made or mounted
 abbrev pub NewAreIdle : Type 0
 NewAreIdle = (ranks : ℕ) → NoneWaits (replicate ranks [])
 
 -- ---- words of this crate's own contracts
 
--- what is asked, and of which book
+-- a question: a request, the rank where it is asked, and the book before it
 pub record Question : Type 0 where
   pub core : Core
   pub history : List Entry
@@ -93,11 +93,11 @@ pub record Question : Type 0 where
   pub rank : Rank
   pub request : Request
 
--- it is answered
+-- the question is answered
 abbrev pub Answers : Question → BookState → Result Receipt Refusal → Type 0
 Answers q book result = AsksAlone q.core book.core q.history book.history q.rank q.request result
 
--- it has come to a rank, and waits there alone
+-- the request has arrived at a rank or was forwarded to it, and waits there alone
 pub record HasCome (q : Question) (book : BookState) (rank : Rank) (client tid : ℕ) : Type 0 where
   pub sound : IsSound q.opening q.history q.core
   pub none : NoneWaits q.core.state.inboxes
@@ -107,16 +107,16 @@ pub record HasCome (q : Question) (book : BookState) (rank : Rank) (client tid :
   pub faults : book.core.faults ≡ q.core.faults
   pub client_is : client ≡ q.request.client
   pub tid_is : tid ≡ q.request.tid
-  -- if the rank is the master of those that it serves, it is that of the rank where the request was asked
+  -- if this rank is the master when it serves the request, it is also the master when the asked rank serves it
   pub via : IsMaster q.core.state rank q.request.op rank → IsMaster q.core.state q.rank q.request.op rank
 
--- it has come to a rank of a book that keeps the end of its history alone, behind the entries that are forgotten
+-- the same, in a book that keeps only the end of its history, behind a forgotten past
 pub record HasComeBehind (q : Question) (past : List Entry) (book : KeptState) (rank : Rank)
     (client tid : ℕ) : Type 0 where
   pub behind : StandsBehind q.opening past book
   pub come : HasCome q (whole_of q.opening past book) rank client tid
 
--- it is new, and this is its master
+-- the request is new, and this rank is its master
 pub record IsNewAtMaster (q : Question) (rank : Rank) : Type 0 where
   pub is_new : IsNew q.history q.request.client q.request.tid q.request.oldest
   pub own : IsMaster q.core.state rank q.request.op rank

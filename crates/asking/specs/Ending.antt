@@ -1,4 +1,4 @@
--- An export that froze its region is brought to its end by its own next steps.
+-- An export whose region is frozen is ended by its own next steps.
 use Rattle.std.specs.Prelude.{◌≡◌, ◌⊎◌, ◌≤◌, ◌++◌, ◌∷◌, [], ℕ, Bool, true, false, List, length, Option, None, Some, Result, Ok, Err, IsOk}
 use Rattle.std.specs.FinMap as map
 use Rattle.std.specs.List.{AllByRecursion}
@@ -26,11 +26,11 @@ abbrev pub IsFreezing : Standing → Leaf → Type 0
 IsFreezing exports root =
     (export : StandingExport) × (map.get exports root ≡ Some export) × (is_freezing export.state ≡ true)
 
--- no export is
+-- no export is frozen, prepared, sent or imported
 abbrev pub NoneFreezing : Standing → Type 0
 NoneFreezing exports = (root : Leaf) → IsFreezing exports root → ⊥
 
--- a step that takes the export of a root on from where it froze; that it ends unsent only where it may be cancelled
+-- a step of the export of this root after its freeze; a Cancel only where the caller allows it
 abbrev pub IsStepOn : (cancel : Bool) → Leaf → Event → Type 0
 IsStepOn cancel root (Arrive rank request) = ⊥
 IsStepOn cancel root (Serve rank) = ⊥
@@ -51,21 +51,21 @@ IsStepOn cancel root (Import dir f bytes) = (dir, f) ≡ root
 IsStepOn cancel root (Finish dir f) = (dir, f) ≡ root
 IsStepOn cancel root (Cancel dir f) = (cancel ≡ true) × ((dir, f) ≡ root)
 
--- the last of these results is this refusal; or it is want of memory, which came between two steps, and none was refused
+-- the last of these results is this refusal; or memory was refused between two steps, and no step was refused
 abbrev pub EndsRefused : List (Result Answer Refusal) → Refusal → Type 0
 EndsRefused results reason =
     ((before : List (Result Answer Refusal)) × (results ≡ before ++ Err reason ∷ []))
     ⊎ ((reason ≡ NoMemory) × AllByRecursion IsOk results)
 
--- bytes that spell the region of another root do so still
+-- bytes that spell the region of another root still spell it
 abbrev pub KeepsSpelled : (old new : State) → Leaf → Type 0
 KeepsSpelled old new root =
     (other : Leaf) (export : StandingExport) (bytes : List ℕ) → (other ≡ root → ⊥)
     → SpellsRegion old.tree old.roots other export bytes → SpellsRegion new.tree new.roots other export bytes
 
--- at most so many steps of the export of a root lead from one book to another, and where a refusal is told it is that of
--- the last of them. Nothing of it is seen by clients, and nothing changes but the tree's own state, the subtree roots and
--- this export; what others sent or would send is as it was
+-- at most so many steps of the export of a root lead from one book to another. A refusal that is told is the refusal of
+-- the last step. Clients see nothing of it: history and shown tree are the same. Only the tree's own state, the subtree
+-- roots and this export change; the bytes that other exports sent or would send stay valid
 pub record TakesOn (cancel : Bool) (root : Leaf) (most : ℕ) (refused : Option Refusal) (old new : BookState) : Type 0 where
   pub events : List Event
   pub results : List (Result Answer Refusal)
@@ -92,27 +92,28 @@ abbrev pub KeepsOtherBytes : (before after : SentBytes) → Leaf → Type 0
 KeepsOtherBytes before after root =
     (other : Leaf) → (other ≡ root → ⊥) → map.get after.bytes other ≡ map.get before.bytes other
 
--- if an export of this root is sent, the bytes that are kept for it are those that it sent
+-- if the export of this root is sent, the bytes kept for it are those that it sent
 abbrev pub HasBytes : State → SentBytes → Leaf → Type 0
 HasBytes state kept root =
     (export : StandingExport) → map.get state.exports root ≡ Some export → export.state ≡ Sent
     → SpellsRegion state.tree state.roots root export (bytes_for kept root)
 
--- so it is with each export that is sent
+-- the kept bytes of each sent export are those that it sent
 abbrev pub HasAllBytes : State → SentBytes → Type 0
 HasAllBytes state kept = (root : Leaf) → HasBytes state kept root
 
--- ---- how it ends
+-- ---- how an export ends
 
--- the importer is the authority of the region; or an export that wasn't sent was cancelled, where that was allowed
+-- the importer is the authority of the region; or the export was cancelled before it was sent, where the caller allows
+-- it
 abbrev pub HandsOrCancels : (cancel : Bool) → (old new : State) → Leaf → StandingExport → Type 0
 HandsOrCancels cancel old new root export =
     (new.roots ≡ map.insert old.roots root export.importer)
     ⊎ ((cancel ≡ true) × (is_before_send export.state ≡ true) × (new.roots ≡ old.roots) × (new.tree ≡ old.tree))
 
--- an export of a root stands still: it is sent, and isn't imported by the bytes that are kept, for want of memory, since they
--- aren't those that were sent, or for want of its importer's places; or it isn't sent, for want of memory or since a
--- fragment has too many dirty names, and may not be cancelled
+-- why an export can't be ended. It is sent, and its Import is refused: memory is refused, the kept bytes aren't those
+-- that were sent, or the importer lacks places. Or it isn't sent and may not be cancelled: memory is refused, or a
+-- fragment has too many dirty names
 abbrev pub WhyNotEnded : (cancel : Bool) → Core → SentBytes → Leaf → StandingExport → Refusal → Type 0
 WhyNotEnded cancel core kept root export reason =
     ((export.state ≡ Sent)
@@ -121,7 +122,7 @@ WhyNotEnded cancel core kept root export reason =
     ⊎ ((is_before_send export.state ≡ true) × (cancel ≡ false)
     × ((reason ≡ NoMemory) ⊎ ((export.state ≡ Prepared) × SendsAt core.state core.state root (Err reason))))
 
--- it was taken on, at most so many steps, and ended: it is handed over or cancelled
+-- the export made at most so many steps, and ended: its region was handed over, or the export was cancelled
 pub record HasEnded (cancel : Bool) (root : Leaf) (most : ℕ) (old new : BookState) (before after : SentBytes) : Type 0 where
   pub export : StandingExport
   pub stood : map.get old.core.state.exports root ≡ Some export
@@ -131,7 +132,8 @@ pub record HasEnded (cancel : Bool) (root : Leaf) (most : ℕ) (old new : BookSt
   pub by : HandsOrCancels cancel old.core.state new.core.state root export
   pub bytes : KeepsOtherBytes before after root
 
--- it was taken on, and stands still: its region is frozen on. What it sent isn't lost
+-- the export made at most so many steps, and still exists: its region remains frozen; if the bytes that it sent were
+-- kept, they still are
 pub record StandsStill (cancel : Bool) (root : Leaf) (most : ℕ) (reason : Refusal) (old new : BookState)
     (before after : SentBytes) : Type 0 where
   pub export : StandingExport
@@ -142,14 +144,15 @@ pub record StandsStill (cancel : Bool) (root : Leaf) (most : ℕ) (reason : Refu
   pub bytes : KeepsOtherBytes before after root
   pub kept : HasBytes old.core.state before root → HasBytes new.core.state after root
 
--- an export that froze its region is brought to its end, or stands still
+-- an export whose region is frozen ends, or still exists
 abbrev pub EndsFrozen : (cancel : Bool) → Leaf → (most : ℕ) → (old new : BookState) → (before after : SentBytes)
     → Result (Unit {0}) Refusal → Type 0
 EndsFrozen cancel root most old new before after (Ok done) = HasEnded cancel root most old new before after
 EndsFrozen cancel root most old new before after (Err reason) =
     StandsStill cancel root most reason old new before after
 
--- so it is with the export of a root, by at most four steps; refused `WrongExportState` exactly where none is frozen
+-- the same for the export of a root, by at most four steps; refused `WrongExportState` exactly where no export of this
+-- root has frozen its region
 abbrev pub EndsExport : (cancel : Bool) → Leaf → (old new : BookState) → (before after : SentBytes)
     → Result (Unit {0}) Refusal → Type 0
 EndsExport cancel root old new before after result =
@@ -158,13 +161,13 @@ EndsExport cancel root old new before after result =
 
 -- ---- words of this crate's own contracts
 
--- no export of this rank froze its region
+-- no export of this rank has frozen its region
 abbrev pub NoneFreezingOf : Standing → Rank → Type 0
 NoneFreezingOf exports rank =
     (root : Leaf) (export : StandingExport) → map.get exports root ≡ Some export → export.exporter ≡ rank
     → is_freezing export.state ≡ true → ⊥
 
--- an export was cancelled, where that was allowed; otherwise nothing happened
+-- an export was cancelled, where the caller allows it; otherwise nothing happened
 abbrev pub CancelsOr : (cancel : Bool) → Leaf → (old new : BookState) → Refusal → Result (Unit {0}) Refusal → Type 0
 CancelsOr cancel root old new refusal (Ok done) =
     (cancel ≡ true) × (answer : Answer)
@@ -172,7 +175,7 @@ CancelsOr cancel root old new refusal (Ok done) =
     × UsesStep old.core new.core (Ok answer) (Cancel root.0 root.1)
 CancelsOr cancel root old new refusal (Err reason) = (reason ≡ refusal) × (cancel ≡ false) × (new ≡ old)
 
--- a prepared export was sent, or not; or there was no room for its bytes
+-- a Send of a prepared export was made, or refused; or there was no room for its bytes
 abbrev pub TriesToSend : Leaf → (old new : BookState) → Result Answer Refusal → Type 0
 TriesToSend root old new (Ok answer) =
     Steps old.core new.core old.history new.history (Ok answer) (Send root.0 root.1)

@@ -1,4 +1,4 @@
--- What grants of all ranks for one request come to.
+-- The grants of all ranks for one request.
 use Rattle.std.specs.Prelude.{◌≡◌, ◌⊎◌, ◌<◌, ℕ, true, Result, Ok, Err}
 use Rattle.std.specs.List.{Contains, list_any}
 use Rattle.mds_types.specs.declared.ids.Rank.{Rank}
@@ -12,17 +12,17 @@ use Rattle.cluster_core.specs.State.{Core, State}
 use Rattle.cluster_core.specs.Steps.{LacksPlaces}
 use Rattle.asking.specs.Serves.{KeepsUnclean}
 
--- a state is as it was but for the grants, and grants for other requests are as they were
+-- only grants changed, and only those for this request
 pub record KeepsButGrants (old new : State) (client tid : ℕ) : Type 0 where
   pub left : new ≡ record old { pins = new.pins }
   pub others : left_without (is_for client tid) new.pins ≡ left_without (is_for client tid) old.pins
 
--- a leaf isn't frozen, and is granted for a request
+-- a leaf isn't frozen, and is granted to a request
 pub record IsGrantedFor (old new : State) (client tid : ℕ) (leaf : Leaf) : Type 0 where
   pub thawed : IsFrozenAt old leaf → ⊥
   pub granted : list_any (is_pin (grant_of leaf client tid)) new.pins ≡ true
 
--- each leaf that an operation would change, and of which one of these ranks is the authority, is granted
+-- each leaf that an operation would change, and whose authority is one of these ranks, is granted
 pub record GrantsSo (old new : Core) (client tid : ℕ) (op : Op) (Ranks : Rank → Type 0) : Type 0 where
   pub kept : KeepsButGrants old.state new.state client tid
   pub granted : (leaf : Leaf) (rank : Rank) → Ranks rank → Contains (would_change old.state op) leaf
@@ -40,7 +40,7 @@ pub record GrantsThem (old new : Core) (client tid : ℕ) (op : Op) : Type 0 whe
 abbrev pub ChangesFrozen : State → Op → Type 0
 ChangesFrozen state op = (leaf : Leaf) × Contains (would_change state op) leaf × IsFrozenAt state leaf
 
--- why not: want of memory, a store whose count of faults rose, places that lack, or a frozen leaf
+-- why grants fail: memory was refused, the store's count of faults rose, a rank lacks places, or such a leaf is frozen
 abbrev pub WhyNotGranted : (old new : Core) → Op → Refusal → Type 0
 WhyNotGranted old new op reason =
     (reason ≡ NoMemory) ⊎ ((reason ≡ StoreFault) × (old.faults < new.faults))
@@ -53,7 +53,7 @@ GrantsEach old new client tid op (Err reason) =
 
 -- ---- words of this crate's own contracts
 
--- one rank's
+-- the grants of one rank
 abbrev pub GrantsOf : (old new : Core) → Rank → (client tid : ℕ) → Op → Result (Unit {0}) Refusal → Type 0
 GrantsOf old new rank client tid op (Ok done) =
     GrantsSo old new client tid op (λ other. other ≡ rank)

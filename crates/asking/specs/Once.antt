@@ -1,4 +1,4 @@
--- A request is asked once: where it is refused nothing of it is left.
+-- A request is asked once: if it is refused, nothing of it is left.
 use Rattle.std.specs.Prelude.{◌≡◌, ◌⊎◌, ◌≤◌, List, length, Result, Ok, Err}
 use Rattle.mds_types.specs.declared.entries.Entry.{Entry}
 use Rattle.mds_types.specs.declared.ids.Rank.{Rank}
@@ -14,7 +14,7 @@ use Rattle.asking.specs.Drain.{IsLowest}
 use Rattle.asking.specs.declared.drains.Waiter.{Waiter}
 use Rattle.cluster_core.specs.declared.receipts.Receipt.{Receipt}
 
--- a book's state and history are as they were, but that the request has no grants
+-- a book's state and history are as they were, but the request has no grants any more
 pub record IsGivenUp (old new : State) (past now : List Entry) (request : Request) : Type 0 where
   pub same : now ≡ past
   pub left : new ≡ record old { pins = without_request old.pins request }
@@ -34,7 +34,8 @@ AsksOnce old new past now rank request (Err reason) =
 
 -- ---- words of this crate's own contracts
 
--- the front of the lowest rank where something waits was given up; where none waits nothing happened
+-- the request at the front of the lowest rank where something waits was given up; or nothing waits, and nothing
+-- happened
 abbrev pub Leaves : (old new : KeptState) → Type 0
 Leaves old new =
     (NoneWaits old.core.state.inboxes × (new ≡ old))

@@ -1,4 +1,4 @@
--- Which steps lead from a book to another.
+-- The steps that lead from one book to another.
 use Rattle.std.specs.Prelude.{◌≡◌, ◌≤◌, ◌++◌, ◌∷◌, [], ℕ, List, length, Option, Some, Result, Ok, Err}
 use Rattle.std.specs.Result.{result_err}
 use Rattle.std.specs.List.{AllByRecursion}
@@ -12,7 +12,7 @@ use Rattle.cluster_core.specs.declared.events.Answer.{Answer}
 use Rattle.cluster_core.specs.declared.events.Event.{Event}
 use Rattle.cluster_core.specs.declared.events.Event.TheVariants.{Arrive, Grant, Serve, Split, Merge, CommitBegin, CommitEnd, CommitDrop, CommitTree, Purge, Evict, Start, Freeze, Prep, Send, Import, Finish, Cancel}
 
--- a step for the request of this client and number: it comes in, a rank serves, or grants it what it needs
+-- a step for the request of this client and number: it arrives, a rank serves, or a rank grants it what it needs
 abbrev pub IsStepFor : (client tid : ℕ) → Event → Type 0
 IsStepFor client tid (Arrive rank request) = (request.client ≡ client) × (request.tid ≡ tid)
 IsStepFor client tid (Serve rank) = Unit {0}
@@ -38,9 +38,9 @@ abbrev pub receipt_in : Result Receipt Refusal → List Receipt
 receipt_in (Ok receipt) = receipt ∷ []
 receipt_in (Err reason) = []
 
--- steps for a request alone lead from one book to another, each from a sound book to a sound book. These requests come
--- in by them, the replies to them are these, there are at most so many, and where a refusal is told it is that of the
--- last of them
+-- steps for one request alone lead from one book to another, each from a sound book to a sound book. They bring these
+-- requests, they give these replies, and there are at most so many. A refusal that is told is the refusal of the last
+-- step
 pub record LeadsTo (client tid : ℕ) (came : List Request) (most : ℕ) (replies : List Receipt) (refused : Option Refusal)
     (old new : BookState) : Type 0 where
   pub events : List Event
@@ -53,8 +53,8 @@ pub record LeadsTo (client tid : ℕ) (came : List Request) (most : ℕ) (replie
   pub last : (reason : Refusal) → refused ≡ Some reason
       → (before : List (Result Answer Refusal)) × (results ≡ before ++ Err reason ∷ [])
 
--- a request was brought to its answer by steps of the book alone, at most so many, all of them for this request: it came
--- in once, and what was told is its reply or the refusal of the last step
+-- steps of the book alone, at most so many and all for this request, gave it its answer: it arrived once, and its
+-- result is its reply or the refusal of the last step
 abbrev pub IsBroughtBy : Request → (most : ℕ) → Result Receipt Refusal → (old new : BookState) → Type 0
 IsBroughtBy request most result old new =
     LeadsTo request.client request.tid (request ∷ []) most (receipt_in result) (result_err result) old new
@@ -80,8 +80,8 @@ ServesOrGrants (Import dir f bytes) = ⊥
 ServesOrGrants (Finish dir f) = ⊥
 ServesOrGrants (Cancel dir f) = ⊥
 
--- ranks served and granted, and nothing else was done: no request came in, each that left did so by such a step, so with
--- its reply, too old, or for want of a number, and these are the replies
+-- ranks served and granted, and nothing else happened, so no request arrived. A request left only by such a step: with
+-- its reply, as too old, or since there was no number for it. These are the replies
 pub record ServesWaiting (old new : BookState) (replies : List Receipt) : Type 0 where
   pub events : List Event
   pub results : List (Result Answer Refusal)

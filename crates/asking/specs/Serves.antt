@@ -1,4 +1,4 @@
--- What serving the request at the front of a rank's inbox gives.
+-- The results of serving the request at the front of a rank's inbox.
 use Rattle.std.specs.Prelude.{◌≡◌, ◌⊎◌, ◌∷◌, [], ℕ, List, Result, Ok, Err}
 use Rattle.mds_types.specs.declared.entries.Entry.{Entry}
 use Rattle.mds_types.specs.declared.ids.Rank.{Rank}
@@ -16,21 +16,20 @@ use Rattle.cluster_core.specs.declared.receipts.Receipt.{Receipt}
 use Rattle.asking.specs.declared.serves.Served.{Served}
 use Rattle.asking.specs.declared.serves.Served.TheVariants.{Replied, Goes, Waits}
 
--- something waits at a rank
+-- at least one request waits at a rank
 abbrev pub SomeWaits : Inboxes → Rank → Type 0
 SomeWaits inboxes rank = (request : Request) × (rest : List Request) × (waiting_at inboxes rank ≡ request ∷ rest)
 
--- the answer of a step that a receipt keeps
+-- the answer of the step that gave this receipt
 abbrev pub told_as : Receipt → Answer
 told_as receipt = Reply receipt.client receipt.tid receipt.place receipt.first receipt.reply
 
--- each rank has what isn't clean as it had it, and as many places
+-- each rank has the same unclean fragments as before, and as many places
 pub record KeepsUnclean (old new : Core) : Type 0 where
   pub unclean : (rank : ℕ) → unclean_of new.caches rank ≡ unclean_of old.caches rank
   pub cap : new.caches.cap ≡ old.caches.cap
 
--- what becomes of the request at the front: of that which goes to its master, or behind all others, the caches were
--- read at most
+-- what serving does with the request at the front; a step that forwards or defers it changes no unclean fragment
 abbrev pub ServesTo : (old new : Core) → (past now : List Entry) → Rank → Request → List Request
     → Result Served Refusal → Type 0
 ServesTo old new past now rank request rest (Ok (Replied receipt)) =
@@ -45,7 +44,7 @@ ServesTo old new past now rank request rest (Err reason) =
 
 -- ---- words of this crate's own contracts
 
--- a receipt that is told stands in the history
+-- the history holds the receipt that was told, at its place
 abbrev pub StandsFor : List Entry → Result Served Refusal → Type 0
 StandsFor history (Ok (Replied receipt)) =
     StandsInHistory history receipt.client receipt.tid receipt.place receipt.reply
@@ -60,7 +59,7 @@ receipts_in (Ok (Goes master)) = []
 receipts_in (Ok Waits) = []
 receipts_in (Err reason) = []
 
--- the answer of the step that served so
+-- the answer of a step that served with this result
 abbrev pub told_of : Served → Answer
 told_of (Replied receipt) = told_as receipt
 told_of (Goes master) = Forwarded master

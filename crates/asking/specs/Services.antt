@@ -1,4 +1,4 @@
--- A service asks its book, and keeps the end of its history alone.
+-- A service asks its book, and keeps only the end of its history.
 use Rattle.std.specs.Prelude.{◌++◌, ℕ, Bool, List, IfOk, Result}
 use Rattle.cluster_core.specs.Opening.{Opening}
 use Rattle.mds_types.specs.declared.entries.Entry.{Entry}
@@ -15,8 +15,8 @@ use Rattle.asking.specs.Once.{AsksOnce}
 use Rattle.asking.specs.Reached.{receipt_in}
 use Rattle.asking.specs.Through.{AsksThrough}
 
--- a book that went on from this opening tree and past goes on from this tree, and its whole history, with what is
--- forgotten now, is that of one thread; the reply is in it at its place
+-- a book that went on from this opening tree and past still goes on from this tree; its whole history, with the entries
+-- that are forgotten now, is that of one thread, and holds the reply at its place
 pub record GoesOnAsOne (opening : Opening) (past : List Entry) (old new : KeptState) (sent : List Request)
     (result : Result Receipt Refusal) : Type 0 where
   pub forgotten : List Entry
@@ -26,7 +26,7 @@ pub record GoesOnAsOne (opening : Opening) (past : List Entry) (old new : KeptSt
   pub stands : IfOk result
       (λ receipt. StandsInHistory (forgotten ++ new.history) receipt.client receipt.tid receipt.place receipt.reply)
 
--- a request was asked once, and then all but so many of the last entries were forgotten, in bulk
+-- a request was asked once; then, in bulk, all but so many of the last entries were forgotten
 pub record AsksAndForgets (keep : ℕ) (old new : KeptState) (rank : Rank) (request : Request)
     (result : Result Receipt Refusal) : Type 0 where
   pub middle : KeptState
@@ -35,7 +35,7 @@ pub record AsksAndForgets (keep : ℕ) (old new : KeptState) (rank : Rank) (requ
   pub goes_on : (opening : Opening) (past : List Entry) → StandsBehind opening past old → StandsBehind opening past middle
   pub forgets : Forgets keep middle new
 
--- so it was asked through exports
+-- the same for a request that was asked through exports
 pub record AsksThroughAndForgets (cancel : Bool) (keep : ℕ) (rank : Rank) (request : Request) (old new : KeptState)
     (before after : SentBytes) (result : Result Receipt Refusal) : Type 0 where
   pub middle : KeptState

@@ -1,4 +1,4 @@
--- A request is asked through exports: those under way are brought to their end where it would change what they froze.
+-- A request is asked through exports: an export whose frozen region it would change is ended first.
 use Rattle.std.specs.Prelude.{◌≡◌, ◌≢◌, ◌⊎◌, ◌≤◌, ◌∷◌, [], Bool, false, List, length, Some, Result, Ok, Err}
 use Rattle.std.specs.FinMap as map
 use Rattle.mds_types.specs.declared.ids.Rank.{Rank}
@@ -15,8 +15,8 @@ use Rattle.cluster_core.specs.declared.receipts.Receipt.{Receipt}
 use Rattle.asking.specs.Ending.{EndsFrozen}
 use Rattle.asking.specs.Once.{AsksOnce}
 
--- a request was asked and refused, since it would change what is frozen, and is given up; then the export of this root
--- was brought to its end, or stands still
+-- a request was asked, was refused since it would change a frozen leaf, and was given up; then the export of this root
+-- ended, or couldn't be ended and still exists
 pub record EndsFor (cancel : Bool) (rank : Rank) (request : Request) (root : Leaf) (old new : BookState)
     (before after : SentBytes) (result : Result (Unit {0}) Refusal) : Type 0 where
   pub asked : BookState
@@ -24,7 +24,7 @@ pub record EndsFor (cancel : Bool) (rank : Rank) (request : Request) (root : Lea
   pub same_opening : asked.opening ≡ old.opening
   pub ends : EndsFrozen cancel root 4 asked new before after result
 
--- so the exports of these roots ended, one after the other
+-- the exports of these roots ended so, one after the other
 abbrev pub GoesThrough : (cancel : Bool) → Rank → Request → List Leaf → (old new : BookState) → (before after : SentBytes)
     → Type 0
 GoesThrough cancel rank request [] old new before after = (new ≡ old) × (after ≡ before)
@@ -32,14 +32,14 @@ GoesThrough cancel rank request (root ∷ roots) old new before after =
     (next : BookState) × (kept : SentBytes) × EndsFor cancel rank request root old next before kept (Ok tt)
     × GoesThrough cancel rank request roots next new kept after
 
--- how it is told that an export stands still: want of memory and of places as such; otherwise the region is frozen on
+-- how a request is refused if an export can't be ended: for want of memory or places that is told, otherwise Frozen
 abbrev pub IsToldOf : Refusal → Refusal → Type 0
 IsToldOf refusal reason =
     ((reason ≡ refusal) × ((refusal ≡ NoMemory) ⊎ (refusal ≡ NothingToEvict)))
     ⊎ ((reason ≡ Frozen) × (refusal ≢ NoMemory) × (refusal ≢ NothingToEvict))
 
--- then the request was asked once more, and got its answer; or an export stood still, and the request is refused so; or
--- there was no memory to ask
+-- the request was asked once more, and got its answer; or an export couldn't be ended, and the request is refused for
+-- that; or there was no memory to ask
 abbrev pub Concludes : (cancel : Bool) → Rank → Request → (old new : BookState) → (before after : SentBytes)
     → Result Receipt Refusal → Type 0
 Concludes cancel rank request old new before after (Ok receipt) =
@@ -50,7 +50,7 @@ Concludes cancel rank request old new before after (Err reason) =
     × EndsFor cancel rank request root old new before after (Err refusal) × IsToldOf refusal reason)
     ⊎ ((reason ≡ NoMemory) × (new ≡ old) × (after ≡ before))
 
--- a request that is asked gets its answer once so many exports ended as it took, at most all that stood
+-- a request that is asked gets its answer after as many exports ended as needed, at most all that there were
 pub record AsksThrough (cancel : Bool) (rank : Rank) (request : Request) (old new : BookState) (before after : SentBytes)
     (result : Result Receipt Refusal) : Type 0 where
   pub roots : List Leaf
@@ -60,7 +60,7 @@ pub record AsksThrough (cancel : Bool) (rank : Rank) (request : Request) (old ne
   pub through : GoesThrough cancel rank request roots old mid before kept
   pub concluded : Concludes cancel rank request mid new kept after result
 
--- an export can't be sent, since a fragment of its region has too many dirty names, and may not be cancelled
+-- an export can't be sent, since a fragment of its region has too many dirty names, and it may not be cancelled
 abbrev pub CantSend : (cancel : Bool) → State → Type 0
 CantSend cancel state =
     (cancel ≡ false) × (root : Leaf) × (state_at state.exports root ≡ Some Prepared) × SendsAt state state root (Err TooManyFrags)

@@ -1,4 +1,4 @@
-//! A request is asked, and gets its answer.
+//! Asking: a request arrives and gets its answer.
 ghost use Rattle.std.specs.Prelude.{◌≡◌, ◌≢◌, ◌+◌, ◌≤◌, ◌++◌, ◌∷◌, [], List, IfOk, OnOk, Err};
 ghost use Rattle.std.specs.FinMap as map;
 ghost use Rattle.std.specs.Result.{result_err};
@@ -22,13 +22,13 @@ use mds_types::{Rank, Refusal, Request};
 use objstore::Store;
 use std::alloc::Global;
 
-/// A request comes in at a rank of a book where nothing else waits, and is brought to its answer: it is served there,
-/// or at its master, once each rank has granted what it needs. Never is it told that the request was forwarded or
-/// deferred: it gets the reply that stands in the history. At most twenty steps are made, all of them for this request.
+/// Asks a request at a rank of a book in which nothing else waits. The request arrives there. That rank or its master
+/// serves it, once each rank has granted what it needs. The answer is the reply that the history holds, never that the
+/// request was forwarded or deferred. At most twenty steps are made, all of them for this request.
 ///
-/// Refused `NotAuthority` exactly where there is no such rank; `Trimmed` and `NoInodes` where serving it is, and it has
-/// left; `Frozen` where it would change a fragment that is frozen; for want of memory, by the store, and for want of
-/// places. After one of these four the request waits on, alone.
+/// Refused `NotAuthority` exactly where there is no such rank. Refused `Trimmed` or `NoInodes` where serving it is
+/// refused so; then the request has left. It is also refused if memory or the store refuses it, if a rank lacks places,
+/// or `Frozen` if it would change a frozen fragment. After each of these last four the request still waits, alone.
 #[inline(always)]
 pub fn ask<S: Store + Drop>(
     alloc: Global,
@@ -68,7 +68,7 @@ pub fn ask<S: Store + Drop>(
     }
 }
 
-// An answer that is `Nothing` is dropped: put into its callers this costs nothing.
+// Drops an answer that is `Nothing`. Inlined into its callers this costs nothing.
 #[inline(always)]
 fn drop_nothing(answer: Answer)
     requires { answer ≡ Nothing }
@@ -83,7 +83,8 @@ fn drop_nothing(answer: Answer)
     }
 }
 
-// The request is served where it came in. The reply is taken from the step's answer at once, so it is moved once.
+// Serves the request at the rank where it arrived. The reply is taken from the step's answer at once, so that it is
+// moved only once.
 #[inline(always)]
 fn serve_first<S: Store + Drop>(
     alloc: Global,
@@ -131,7 +132,7 @@ fn serve_first<S: Store + Drop>(
     }
 }
 
-// It is served at its master.
+// Serves the request at its master.
 #[inline(never)]
 fn serve_there<S: Store + Drop>(
     alloc: Global,
@@ -163,7 +164,7 @@ fn serve_there<S: Store + Drop>(
     }
 }
 
-// It is served at its master, once each rank has granted what it needs.
+// Serves the request at its master, once each rank has granted what it needs.
 #[inline(never)]
 fn serve_granted<S: Store + Drop>(
     alloc: Global,
@@ -198,16 +199,16 @@ fn serve_granted<S: Store + Drop>(
     }
 }
 
-/// What came of a request that was asked where others waited.
+/// The answers where a request was asked while others waited.
 #[derive(Drop)]
 pub struct Among {
-    /// The replies to the others, in the order in which they were told.
+    /// The replies to the others, in the order in which they were given.
     pub others: Vec<Receipt>,
     pub answer: Result<Receipt, Refusal>,
 }
 
-/// A request comes in at a rank of a book where others may wait, at most 1024 in all: these are answered first, then the
-/// request is asked. Where one of them is held up it isn't, and never came in.
+/// Asks a request at a rank of a book in which others may wait, at most 1024 in all. The others are answered first,
+/// then this request is asked. If one of the others can't be served, this request doesn't arrive.
 pub fn ask_among<S: Store + Drop>(
     alloc: Global,
     book: &mut Book<S>,

@@ -1,4 +1,4 @@
-//! Draining: all that waits is answered.
+//! Draining: answering all requests that wait.
 ghost use Rattle.std.specs.Prelude.{◌≡◌, ◌≢◌, ◌⊎◌, ◌-◌, ◌<◌, ◌≤◌, ◌++◌, [], true, cond, vec_capacity, vec_len, List, Ok, Err, IfErr, MatchBool, MatchOption, MatchResult, OnOk};
 ghost use Rattle.std.specs.FinMap as map;
 ghost use Rattle.cluster_core.specs.Opening.{Opening};
@@ -29,20 +29,20 @@ pub(crate) struct Waiter {
 /// How many requests may wait in all.
 const MOST: usize = 1024;
 
-/// What was told while the requests that waited were answered, and how that ended.
+/// The replies that a drain gave, and how it ended.
 #[derive(Drop)]
 pub struct Drained {
-    /// The replies, in the order in which they were told.
+    /// The replies, in the order in which they were given.
     pub receipts: Vec<Receipt>,
-    /// Ok where nothing waits any more; otherwise why the next request is held up.
+    /// Ok if nothing waits any more; otherwise the reason why the next request can't be served.
     pub ended: Result<(), Refusal>,
 }
 
-/// Every request that waits at any rank is answered, or leaves since it is too old or finds no number, in a book where at
-/// most 1024 wait in all. Nothing else is done than that ranks serve and grant.
+/// Answers every request that waits at any rank of a book in which at most 1024 wait in all. A request that is too old,
+/// or for which there is no number, leaves without a reply. The only steps are that ranks serve and grant.
 ///
-/// It ends refused where the next request is held up: for want of memory, by the store, for want of places, or since it
-/// would change a frozen fragment, and so never `Frozen` where no export stands. Those that were answered before it are.
+/// Fails at the first request that can't be served: memory or the store refuses it, a rank lacks places, or it would
+/// change a frozen fragment. It never fails `Frozen` if no export exists. The requests before that one are answered.
 pub fn drain<S: Store + Drop>(alloc: Global, book: &mut Book<S>) -> Drained
     requires { waiting_in_all book.old.core.state.inboxes ≤ 1024 }
     ensures served { (opening : Opening) (past : List Applied) → StandsBehind opening past book.old
@@ -68,7 +68,7 @@ pub fn drain<S: Store + Drop>(alloc: Global, book: &mut Book<S>) -> Drained
     Drained { receipts, ended }
 }
 
-// So, one round after the other. The replies come into an empty list.
+// Drains a book, one round after the other. The list of replies is empty at first.
 fn answer_all<S: Store + Drop>(
     alloc: Global,
     book: &mut Book<S>,
@@ -101,8 +101,8 @@ fn answer_all<S: Store + Drop>(
     Ok(())
 }
 
-// At most how many requests aren't at their master after a round: one fewer where one went to its own; where one has left,
-// others may have another master.
+// A bound on the requests that aren't at their master, after a round. It is one lower if a request was forwarded to its
+// master. If one has left, others may have another master now.
 fn strays_after(strays: usize, moved: bool) -> usize
     requires { moved ≡ true → 0 < strays }
     ensures { result ≡ cond moved (strays - 1) 1024 }
@@ -110,7 +110,7 @@ fn strays_after(strays: usize, moved: bool) -> usize
     if moved { strays - 1 } else { MOST }
 }
 
-// The front of the lowest rank where something waits.
+// The request at the front of the lowest rank where something waits.
 pub(crate) fn lowest<S: Store + Drop>(book: &Book<S>) -> Option<Waiter>
     ensures { MatchOption result (NoneWaits book.now.core.state.inboxes) (IsLowest book.now.core.state.inboxes) }
 {
@@ -127,8 +127,9 @@ pub(crate) fn lowest<S: Store + Drop>(book: &Book<S>) -> Option<Waiter>
     None
 }
 
-// One round: each rank grants the request at a front what it needs, and its rank serves it. Whether it went to its master;
-// otherwise it has left. Its reply, if it has one, comes behind the others.
+// One round: each rank grants a request at a front what it needs, and the rank where it waits serves it. Returns true
+// if the request was forwarded to its master, and false if it has left. Its reply, if it has one, is put behind the
+// others.
 fn play_round<S: Store + Drop>(
     alloc: Global,
     book: &mut Book<S>,
@@ -149,7 +150,7 @@ fn play_round<S: Store + Drop>(
     ensures sound { IsSoundKept book.new }
 {
     book.is_sound();
-    // room for the reply comes first: once it is told it can't be lost
+    // room for the reply is reserved first: a reply that was given can't be lost
     if receipts.reserve(1).is_err() {
         return Err(Refusal::NoMemory);
     }
@@ -162,8 +163,8 @@ fn play_round<S: Store + Drop>(
     }
 }
 
-// Notes the receipt of an answer, if it is a reply, in a list that has room for it, and tells whether a request went to
-// its master.
+// Puts the receipt of an answer, if it is a reply, into a list that has room for it. Returns whether the request was
+// forwarded to its master.
 fn note(answer: Answer, receipts: &mut Vec<Receipt>) -> bool
     requires { vec_len receipts.old < vec_capacity receipts.old }
     ensures moved { result ≡ forwards answer }
@@ -200,7 +201,7 @@ fn note(answer: Answer, receipts: &mut Vec<Receipt>) -> bool
     }
 }
 
-// That a request has left is no refusal.
+// A request that has left the inbox for good ends its round without an error.
 fn unless_gone(refusal: Refusal) -> Result<bool, Refusal>
     ensures { MatchResult result
         (λ moved. MatchBool moved ⊥ ((refusal ≡ Refusal.Trimmed) ⊎ (refusal ≡ Refusal.NoInodes)))

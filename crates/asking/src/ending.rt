@@ -1,4 +1,4 @@
-//! Ending an export that froze its region, by its own next steps.
+//! Ending an export whose region is frozen, by the next steps of the export itself.
 ghost use Rattle.std.specs.Prelude.{◌≡◌, ◌<◌, ℕ, List, Some, OnOk};
 ghost use Rattle.std.specs.FinMap as map;
 ghost use Rattle.cluster_core.specs.Opening.{Opening};
@@ -17,13 +17,13 @@ use mds_types::{Frag, Ino, Refusal};
 use objstore::Store;
 use std::alloc::Global;
 
-/// The export of a root that is frozen, prepared, sent or imported is brought to its end by its own next steps, at most
-/// four: Prep, Send, Import by the bytes that it sent, Finish. Those that an earlier Send gave are taken from `kept`, where
-/// those of a Send of this call stay until they are imported. With `cancel` one that can't be sent is cancelled.
+/// Ends the export of a root that is frozen, prepared, sent or imported, by its own next steps, at most four: Prep,
+/// Send, Import with the bytes that it sent, Finish. The bytes of an earlier Send are taken from `kept`. The bytes of a
+/// Send of this call are in `kept` until they are imported. With `cancel`, an export that can't be sent is cancelled.
 ///
-/// Refused `WrongExportState` exactly where no export of this root froze; for want of memory, and of its importer's places;
-/// `Damaged` where other bytes are kept than were sent; and `TooManyFrags` as Send is, never with `cancel`. The export
-/// stands still then, and may be ended by another call.
+/// Refused `WrongExportState` exactly where no export of this root has frozen its region. Also refused if memory is
+/// refused or the importer lacks places, `Damaged` if `kept` has other bytes than were sent, and `TooManyFrags` as Send
+/// is, never with `cancel`. In these cases the export still exists, and another call may end it.
 pub fn end_export<S: Store + Drop>(
     alloc: Global,
     book: &mut Book<S>,
@@ -64,7 +64,7 @@ fn state_of<S: Store + Drop>(book: &Book<S>, ino: Ino, frag: Frag) -> Option<Exp
     }
 }
 
-// One that is frozen.
+// Ends an export that is frozen.
 fn end_frozen<S: Store + Drop>(
     alloc: Global,
     book: &mut Book<S>,
@@ -92,7 +92,7 @@ fn end_frozen<S: Store + Drop>(
     }
 }
 
-// One that is prepared.
+// Ends an export that is prepared.
 fn end_prepared<S: Store + Drop>(
     alloc: Global,
     book: &mut Book<S>,
@@ -120,7 +120,7 @@ fn end_prepared<S: Store + Drop>(
     }
 }
 
-// It is sent, once there is room for its bytes: after that they can't be lost.
+// Makes a Send, once room for its bytes is reserved: after it they can't be lost.
 fn send<S: Store + Drop>(
     alloc: Global,
     book: &mut Book<S>,
@@ -144,7 +144,7 @@ fn send<S: Store + Drop>(
     }
 }
 
-// The bytes that a Send gave are kept.
+// Keeps the bytes that a Send gave.
 fn keep_sent(kept: &mut KeptBytes, ino: Ino, frag: Frag, answer: Answer)
     requires room { 0 < kept.old.room }
     requires sent { (bytes : List ℕ) × (answer ≡ Sent bytes) }
@@ -160,7 +160,7 @@ fn keep_sent(kept: &mut KeptBytes, ino: Ino, frag: Frag, answer: Answer)
     }
 }
 
-// One that is sent. Its importer is given a copy of the bytes, since an Import that is refused has eaten its own.
+// Ends an export that is sent. The importer gets a copy of the bytes, since a refused Import consumes its bytes.
 fn end_sent<S: Store + Drop>(
     alloc: Global,
     book: &mut Book<S>,
@@ -192,7 +192,7 @@ fn end_sent<S: Store + Drop>(
     }
 }
 
-// One that is imported: nothing can refuse that. Its bytes are kept no longer.
+// Finishes an export that is imported, which nothing can refuse, and removes its kept bytes.
 fn finish<S: Store + Drop>(
     alloc: Global,
     book: &mut Book<S>,
@@ -218,7 +218,7 @@ fn finish<S: Store + Drop>(
     }
 }
 
-// An export whose next step was refused before it is sent is cancelled, where it may be: nothing can refuse that.
+// If a step before the Send was refused, cancels the export where the caller allows it. Nothing can refuse the Cancel.
 fn unless_cancelled<S: Store + Drop>(
     alloc: Global,
     book: &mut Book<S>,

@@ -1,4 +1,4 @@
-//! Grants of all ranks for one request.
+//! The grants of all ranks for one request.
 ghost use Rattle.std.specs.Prelude.{◌≡◌, ◌≢◌, ◌+◌, [], List, Some, MatchResult};
 ghost use Rattle.std.specs.Result.{result_err};
 ghost use Rattle.objstore.specs.Objects.{faults_told};
@@ -16,9 +16,9 @@ use mds_types::{Rank, Refusal};
 use objstore::Store;
 use std::alloc::Global;
 
-/// Each rank grants a request that waits somewhere all of its fragments that the request would change now: then none
-/// of them is frozen, and whatever rank serves the request may change them. Refused `Frozen` exactly where one of them
-/// is frozen, unless a fragment can't be read first; some grants may have been made then.
+/// Each rank grants a waiting request all fragments of the rank that the request would change now. After that no such
+/// fragment is frozen, and any rank that serves the request may change them. Refused `Frozen` exactly where such a
+/// fragment is frozen, unless a fragment can't be read before that. After a refusal some grants may have been made.
 #[tactic(auto, using(crate::proofs::ReachedLaws::leads_nowhere))]
 pub fn grant_all<S: Store + Drop>(
     alloc: Global,
@@ -47,7 +47,7 @@ pub fn grant_all<S: Store + Drop>(
     Ok(())
 }
 
-// A rank grants a request that waits somewhere what is the rank's of what it would change, if anything is.
+// A rank grants a waiting request those fragments of the rank that the request would change, if there are any.
 fn grant_own<S: Store + Drop>(
     alloc: Global,
     book: &mut Book<S>,
@@ -77,7 +77,7 @@ fn grant_own<S: Store + Drop>(
     }
 }
 
-// That nothing is the rank's is no refusal.
+// A rank that has nothing to grant is no error.
 fn unless_foreign(refusal: Refusal) -> Result<(), Refusal>
     ensures { MatchResult result (λ done. refusal ≡ Refusal.NotAuthority)
         (λ reason. (reason ≡ refusal) × (refusal ≢ Refusal.NotAuthority)) }

@@ -1,6 +1,6 @@
-//! One call, one answer: a request is brought to its answer by steps of a book alone, whatever rank holds what. Where a
-//! contract speaks of a history, it is the whole one: the entries that the book has forgotten, whichever these are, and
-//! behind them those that it keeps.
+//! One call, one answer: a request gets its answer by steps of a book alone, whichever ranks hold the fragments. A
+//! history in a contract is always the whole one: the forgotten entries, whichever these are, and the entries that the
+//! book keeps.
 #![tactic(auto)]
 
 mod asks;

@@ -16,18 +16,18 @@ use mds_types::{Rank, Refusal};
 use objstore::Store;
 use std::alloc::Global;
 
-/// What became of a request that was served.
+/// The result of serving a request.
 #[derive(Debug, Drop)]
 pub(crate) enum Served {
     /// It has its reply.
     Replied(Receipt),
-    /// It waits at its master now.
+    /// It was forwarded to its master, this rank, and waits there.
     Goes(Rank),
     /// It waits behind all others at its master, for a grant or for the end of an export.
     Waits,
 }
 
-/// The request at the front of a rank's inbox is served, where one waits.
+/// Serves the request at the front of a rank's inbox, in which at least one waits.
 #[inline(always)]
 pub(crate) fn serve<S: Store + Drop>(
     alloc: Global,
@@ -57,7 +57,7 @@ pub(crate) fn serve<S: Store + Drop>(
     }
 }
 
-// What the answer of a step that serves says of the request.
+// What the answer of a Serve says of the request.
 #[inline(always)]
 fn served_by(answer: Answer) -> Served
     requires { IsOfServe answer }

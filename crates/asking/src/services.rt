@@ -1,4 +1,4 @@
-//! A book to ask, and nothing else: whatever was asked, nothing is left waiting.
+//! A service: a book that is only asked, and in which no request is left waiting.
 ghost use Rattle.std.specs.Prelude.{◌≡◌, ◌≢◌, ◌++◌, ◌∷◌, [], List, None, Err, IfErr, IfOk, MatchResult, OnOk};
 ghost use Rattle.std.specs.FinMap as map;
 ghost use Rattle.cluster_core.specs.Opening.{Opening};
@@ -27,11 +27,12 @@ use objstore::Store;
 use std::alloc::Global;
 use std::thread::Threads;
 
-/// A request comes in at a rank of a book where nothing else waits, and is brought to its answer; where that is refused it is
-/// given up, as if it had never come. Nothing waits afterwards, whatever came of it.
+/// Asks a request at a rank of a book in which nothing else waits. If it is refused, it is given up, as if it had never
+/// arrived. Nothing waits afterwards, whatever the answer is.
 ///
-/// Refused `NotAuthority` exactly where there is no such rank; `Trimmed`, `NoInodes` where serving it is; `Frozen` where it
-/// would change a fragment that is frozen; for want of memory, by the store, and for want of places.
+/// Refused `NotAuthority` exactly where there is no such rank, `Trimmed` and `NoInodes` where serving it is refused so,
+/// and `Frozen` if it would change a frozen fragment. Also refused if memory or the store refuses it, or a rank lacks
+/// places.
 #[inline(always)]
 pub fn ask_once<S: Store + Drop>(
     alloc: Global,
@@ -66,7 +67,7 @@ pub fn ask_once<S: Store + Drop>(
     }
 }
 
-// What waits at the front of the lowest rank is given up, if something waits.
+// Gives up the request at the front of the lowest rank where something waits, if there is one.
 #[inline(never)]
 fn leave<S: Store + Drop>(book: &mut Book<S>)
     ensures left { Leaves book.old book.new }
@@ -81,21 +82,22 @@ fn leave<S: Store + Drop>(book: &mut Book<S>)
     }
 }
 
-// How many entries of a history stay, where nothing else is said.
+// How many entries of a history a service keeps by default.
 const STAY: usize = 1000;
 
-/// A book that is asked, in which nothing waits between two requests: so that each may be. Behind each request it forgets
-/// all but the last entries of the history, so its memory is bounded by the tree, the clients and how many stay.
+/// A book that is only asked. Nothing waits between two requests, so each request may be asked. After each request the
+/// service forgets old entries of the history, so its memory is bounded by the tree, the clients and the entries kept.
 #[derive(Drop)]
 pub struct Service<S: Store + Drop> {
     book: Book<S>,
-    /// How many of the last entries stay; fewer than twice as many are there between two requests.
+    /// How many of the last entries are kept. Between two requests the book has fewer than twice as many.
     history: usize,
     ghost idle: { waiting_in_all book.core.state.inboxes ≡ 0 },
 }
 
 impl<S: Store + Drop> Service<S> {
-    /// A service over a book, of whose history 1,000 entries stay. The book is handed back where something waits in it.
+    /// A service over a book, which keeps the last 1,000 entries of the history. Returns the book if something waits in
+    /// it.
     pub fn of(book: Book<S>) -> Result<Service<S>, Book<S>>
         ensures of { MatchResult result (λ service. service.book ≡ book) (λ back. back ≡ book) }
         ensures history { IfOk result (λ service. service.history ≡ 1000) }
@@ -109,7 +111,7 @@ impl<S: Store + Drop> Service<S> {
         }
     }
 
-    /// From now on so many of the last entries of the history stay: with `usize::MAX` all of them.
+    /// Sets how many of the last entries of the history are kept. With `usize::MAX` all are.
     pub fn set_history(&mut self, count: usize)
         ensures book { self.new.book ≡ self.old.book }
         ensures history { self.new.history ≡ count }
@@ -124,7 +126,7 @@ impl<S: Store + Drop> Service<S> {
         &self.book
     }
 
-    /// The book, handed back.
+    /// Returns the book.
     pub fn into_book(self) -> Book<S>
         ensures { result ≡ self.book }
     {
@@ -132,14 +134,14 @@ impl<S: Store + Drop> Service<S> {
         book
     }
 
-    /// How many entries there ever were, as `Book::places` tells: those that are forgotten, and those of the history.
+    /// How many entries there ever were, as `Book::places` tells: the forgotten ones and those of the history.
     pub fn places(&self) -> usize
         ensures { result ≡ places_of self.now.book }
     {
         self.book.places()
     }
 
-    /// The tree that the book opened with is no longer kept, as `Book::drop_opening` says: no request needs it.
+    /// Drops the tree that the book opened with, as `Book::drop_opening` does. No request needs it.
     pub fn drop_opening(&mut self)
         ensures gone { self.new.book.opening ≡ None }
         ensures history { self.new.book.history ≡ self.old.book.history }
@@ -150,8 +152,7 @@ impl<S: Store + Drop> Service<S> {
         self.book.drop_opening();
     }
 
-    /// One step of the book, of an event that brings no request, as an administrator's: what it answers, or why it is
-    /// refused.
+    /// Makes one step of the book, for an event that brings no request, such as an administrator's.
     pub fn step(&mut self, alloc: Global, event: Event) -> Result<Answer, Refusal>
         requires { arrival event ≡ [] }
         ensures stepped { (opening : Opening) (past : List Applied) → StandsBehind opening past self.old.book
@@ -168,7 +169,7 @@ impl<S: Store + Drop> Service<S> {
         self.book.step(alloc, event)
     }
 
-    /// Writes all that isn't in the store, as `flush` does.
+    /// Writes all that the store doesn't have yet, as `flush` does.
     pub fn flush(&mut self, rt: &(impl Threads + Sync), alloc: Global) -> Result<(), Refusal>
         ensures cold { OnOk result
             (IsColdTree self.new.book.core.state.tree.objects (shown self.old.book.core.state)) }
@@ -179,7 +180,7 @@ impl<S: Store + Drop> Service<S> {
         flush(rt, alloc, &mut self.book)
     }
 
-    /// A request comes in at a rank, and gets its answer, or is refused as `ask_once` is: then nothing of it is left.
+    /// Asks a request at a rank, as `ask_once` does. After a refusal nothing of the request is left.
     #[inline(always)]
     pub fn ask(&mut self, alloc: Global, rank: Rank, request: Request) -> Result<Receipt, Refusal>
         ensures one_thread { (opening : Opening) (past : List Applied) → StandsBehind opening past self.old.book
@@ -195,8 +196,8 @@ impl<S: Store + Drop> Service<S> {
         answer
     }
 
-    /// A request comes in at a rank, and gets its answer, where exports that keep it from that are brought to their end, as
-    /// by `ask_through`.
+    /// Asks a request at a rank, as `ask_through` does: exports whose frozen region the request would change are ended
+    /// first.
     pub fn ask_through(
         &mut self,
         alloc: Global,
@@ -222,7 +223,7 @@ impl<S: Store + Drop> Service<S> {
 }
 
 impl<S: Keep + Drop> Service<S> {
-    /// Brings what the store has where it outlives the process, as `Book::keep` does.
+    /// Keeps the content of the store so that it outlives the process, as `Book::keep` does.
     pub fn keep(&mut self) -> Result<(), Unkept>
         ensures same { self.new.book ≡ self.old.book }
         ensures failed { IfErr result (λ _. S.may_fail) }
@@ -230,7 +231,7 @@ impl<S: Keep + Drop> Service<S> {
         self.book.keep()
     }
 
-    /// Leaves what was kept whole in one place, as a run ends.
+    /// Gathers all that was kept in one place, at the end of a run.
     pub fn settle(&mut self) -> Result<(), Unkept>
         ensures same { self.new.book ≡ self.old.book }
         ensures failed { IfErr result (λ _. S.may_fail) }

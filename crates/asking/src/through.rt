@@ -1,4 +1,4 @@
-//! Asking through exports: those that keep a request from its answer are brought to their end.
+//! Asking through exports: an export whose frozen region a request would change is ended first.
 ghost use Rattle.std.specs.Prelude.{◌≡◌, ◌≢◌, ◌++◌, ◌∷◌, [], List, Err, IfOk, MatchOption, MatchResult};
 ghost use Rattle.cluster_core.specs.Opening.{Opening};
 ghost use Rattle.mds_types.specs.declared.entries.Entry.{Entry as Applied};
@@ -18,14 +18,14 @@ use mds_types::{Frag, Ino, Rank, Refusal, Request};
 use objstore::Store;
 use std::alloc::Global;
 
-/// A request comes in at a rank of a book where nothing else waits, and is brought to its answer as by `ask_once`. Where it
-/// would change what an export froze, exports are brought to their end, one after the other in the order of their exporters
-/// and roots, each by at most four steps of its own (`end_export`), until it would no more. Nothing waits afterwards,
-/// whatever came of it.
+/// Asks a request at a rank of a book in which nothing else waits, as `ask_once` does. If the request would change
+/// frozen fragments, exports are ended one after the other, in the order of their exporters and roots, until it
+/// wouldn't. Each export takes at most four steps of its own (`end_export`). Nothing waits afterwards, whatever the
+/// answer is.
 ///
-/// Refused as `ask_once` is, but never `Frozen` where each export could be ended. One that can't refuses the request: for
-/// want of memory, or of its importer's places; and `Frozen` where `kept` has other bytes than it sent, or, without
-/// `cancel`, where it has too many dirty names.
+/// Refused as `ask_once` is, but never `Frozen` if each export could be ended. An export that can't be ended refuses
+/// the request: if memory is refused, or the importer lacks places; and `Frozen` if `kept` has other bytes than the
+/// export sent, or, without `cancel`, if the export has too many dirty names.
 pub fn ask_through<S: Store + Drop>(
     alloc: Global,
     book: &mut Book<S>,
@@ -74,7 +74,7 @@ pub fn ask_through<S: Store + Drop>(
     ask_once(alloc, book, rank, request)
 }
 
-// A copy of a request is asked. The request itself is asked once no export is frozen any more.
+// Asks a copy of a request. The request itself is asked once no export is frozen any more.
 fn ask_copy<S: Store + Drop>(
     alloc: Global,
     book: &mut Book<S>,
@@ -104,7 +104,7 @@ fn ask_copy<S: Store + Drop>(
     }
 }
 
-// That something is frozen is no refusal.
+// A frozen fragment is no error here: an export is ended next.
 fn unless_frozen(refusal: Refusal) -> Result<(), Refusal>
     ensures { MatchResult result (λ done. refusal ≡ Refusal.Frozen)
         (λ reason. (reason ≡ refusal) × (refusal ≢ Refusal.Frozen)) }
@@ -115,7 +115,7 @@ fn unless_frozen(refusal: Refusal) -> Result<(), Refusal>
     }
 }
 
-// How it is told that an export stands still.
+// The refusal of a request whose export can't be ended.
 fn told_of(refusal: Refusal) -> Refusal
     ensures { IsToldOf refusal result }
 {
@@ -140,7 +140,7 @@ fn first_frozen<S: Store + Drop>(book: &Book<S>) -> Option<(Ino, Frag)>
     None
 }
 
-// The first one of a rank.
+// The root of the first such export of a rank.
 fn first_of(exports: &Exports, rank: Rank) -> Option<(Ino, Frag)>
     ensures { MatchOption result (NoneFreezingOf exports.now rank) (IsFreezing exports.now) }
 {

@@ -14,10 +14,10 @@ use std::sync::Wait;
 use std::thread::Threads;
 use std::{env, io};
 
-/// The status of a command line that can't be read, for want of memory too.
+/// The exit status if the command line can't be read, also for want of memory.
 const BAD_COMMAND_LINE: u8 = 2;
 
-/// The status of a script or a run that ends in a fault.
+/// The exit status of a script or a run that ends in a fault.
 const FAULT: u8 = 1;
 
 fn main(rt: HostRuntime) -> io::Result<ExitCode> {
@@ -44,7 +44,7 @@ fn main(rt: HostRuntime) -> io::Result<ExitCode> {
     }
 }
 
-// Does what the command line asks for. `host` has the files and the streams, `rt` runs threads.
+// Does what the command line asks for. `host` has the files and streams, `rt` runs threads.
 fn run<H: AllocGlobal + Threads + Wait + Sync + Print + Eprint>(
     host: &HostRuntime,
     rt: &H,
@@ -107,12 +107,12 @@ fn run<H: AllocGlobal + Threads + Wait + Sync + Print + Eprint>(
     }
 }
 
-// The status of a run that went well, or did not and has told why.
+// The exit status of a run that went well, or that failed and has told why.
 fn status(is_well: bool) -> ExitCode {
     ExitCode::from(if is_well { 0 } else { FAULT })
 }
 
-// The command line needs memory too.
+// Reports that there was no memory to read the command line.
 fn no_memory_for_words(rt: &impl Eprint) -> io::Result<ExitCode> {
     eprintln!(rt; "cephmeta: out of memory")?;
     Ok(ExitCode::from(BAD_COMMAND_LINE))
@@ -162,7 +162,7 @@ fn script<H: AllocGlobal + Threads + Sync + Print + Eprint, I: Read + Drop>(
     }
 }
 
-// The status of a run, whose fault is told on standard error.
+// The exit status of a run, whose fault is written to standard error.
 fn served(rt: &impl Eprint, ended: Result<(), ServeFault>) -> io::Result<ExitCode> {
     if let Err(fault) = ended {
         eprintln!(rt; "cephmeta: {fault}")?;

@@ -1,5 +1,5 @@
-//! A script, or a load, over the tree that a file has. What follows the opening of the file is said of any tables: so
-//! nothing here is proved of the database's own types.
+//! A script or a load over the tree in a file. All but the opening of the file is generic over the tables, so that
+//! nothing is proved here about the database's own types.
 ghost use Rattle.std.specs.Prelude.{◌≤◌};
 ghost use Rattle.sqlite_trees.specs.View.{IsClean};
 ghost use Rattle.kept_store.specs.Kept.{IsFreshMirror};
@@ -20,7 +20,7 @@ use std::sync::Wait;
 use std::thread::Threads;
 use store_file::{Wary, open, remove_log};
 
-/// Ranks, cached fragments of each, and entries that a directory may have.
+/// The number of ranks, of fragments that each may cache, and of entries that a directory may have.
 #[derive(Clone, Copy, Debug)]
 pub struct Shape {
     pub ranks: u8,
@@ -28,9 +28,9 @@ pub struct Shape {
     pub limit: Limit,
 }
 
-/// Runs a script over the tree of a file, and saves what the script didn't flush. Answers whether all went well: what is
-/// wrong with the file, and what isn't saved, is told on standard error, and why a line was refused, if that is asked for.
-/// `host` opens the file, `rt` runs threads.
+/// Runs a script over the tree in a file, and saves what the script didn't flush. Returns whether all went well.
+/// Standard error tells what is wrong with the file, what isn't saved, and, if that is asked for, why a line was
+/// refused. `host` opens the file, `rt` runs threads.
 pub fn script_stored<H: AllocGlobal + Threads + Sync>(
     host: &HostRuntime,
     rt: &H,
@@ -50,8 +50,8 @@ pub fn script_stored<H: AllocGlobal + Threads + Sync>(
     }
 }
 
-/// Serves a load over the tree of a file, which has to be empty, and saves the tree that it leaves. Answers whether all
-/// went well, and tells what did not, as `script_stored` does.
+/// Serves a load over the tree in a file, which must be empty, and saves the tree after it. Returns whether all went
+/// well, and tells on standard error what didn't.
 pub fn serve_stored<H: AllocGlobal + Threads + Wait + Sync + Eprint>(
     host: &HostRuntime,
     rt: &H,
@@ -66,7 +66,7 @@ pub fn serve_stored<H: AllocGlobal + Threads + Wait + Sync + Eprint>(
     }
 }
 
-// Runs a script over the tree that tables have.
+// Runs a script over the tree in tables.
 fn script_over<T: Settle + Drop, H: AllocGlobal + Threads + Sync>(
     host: &HostRuntime,
     rt: &H,
@@ -84,7 +84,7 @@ fn script_over<T: Settle + Drop, H: AllocGlobal + Threads + Sync>(
 {
     match mounted(host, rt.alloc(), path, tables, shape) {
         Ok(mut book) => {
-            // a second copy of the tree, which a script needs not
+            // a second copy of the tree, which a script doesn't need
             book.drop_opening();
             let writer = &mut io::writer(host);
             let Ran { book, ended } = if explains {
@@ -102,7 +102,7 @@ fn script_over<T: Settle + Drop, H: AllocGlobal + Threads + Sync>(
     }
 }
 
-// Serves a load over the tree that tables have, if that is empty.
+// Serves a load over the tree in tables, if that tree is empty.
 fn load_over<T: Settle + Drop + Send, H: AllocGlobal + Threads + Wait + Sync + Eprint>(
     host: &HostRuntime,
     rt: &H,
@@ -141,8 +141,8 @@ fn load_over<T: Settle + Drop + Send, H: AllocGlobal + Threads + Wait + Sync + E
     }
 }
 
-// Mounts the tree that tables have, or tells why not. Tables that are refused leave their file without its log, which has
-// nothing that the file lacks once it was opened.
+// Mounts the tree in tables. If that fails, tells why and removes the log of the file, which after the opening holds
+// nothing that the file lacks.
 fn mounted<T: Settle + Drop>(
     host: &HostRuntime,
     alloc: Global,
@@ -174,15 +174,16 @@ fn mounted<T: Settle + Drop>(
     }
 }
 
-// Whether a tree is on disk, and whether its file has all of it without the log.
+// Whether a tree is on disk, and whether its file holds all of it without the log.
 #[derive(Clone, Copy, Debug)]
 struct Closed {
     saved: Result<(), Unsaved>,
     settled: Result<(), Unkept>,
 }
 
-// Saves what a book leaves, and leaves the file without its log. The log is removed while the file is still held, so that
-// no other process has it open. A book is taken apart, since dropping it would be proved here of all that it is made of.
+// Saves the tree of a book. Once the file holds all of it, the log is removed, while the file is still held and no
+// other process has it open. The book is taken apart: to drop it, the proofs here would need all the types that it is
+// made of.
 fn close<T: Settle + Drop>(
     host: &HostRuntime,
     rt: &(impl AllocGlobal + Threads + Sync),
@@ -205,7 +206,7 @@ fn close<T: Settle + Drop>(
     Closed { saved, settled }
 }
 
-// Whether all is in the file; what isn't is told on standard error.
+// Whether all is in the file. Standard error tells what isn't.
 fn is_saved(host: &impl Eprint, path: &str, closed: Closed) -> io::Result<bool> {
     if let Err(why) = closed.saved {
         eprintln!(host; "cephmeta: {path}: not all is saved: {why}")?;
@@ -218,7 +219,7 @@ fn is_saved(host: &impl Eprint, path: &str, closed: Closed) -> io::Result<bool> 
     Ok(true)
 }
 
-// What is wrong with the file is told on standard error.
+// Writes to standard error what is wrong with the file.
 fn told(host: &impl Eprint, path: &str, fault: &impl Display) -> io::Result<bool> {
     eprintln!(host; "cephmeta: {path}: {fault}")?;
     Ok(false)

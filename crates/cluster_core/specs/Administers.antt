@@ -1,4 +1,4 @@
--- What an administrator's steps do to a cluster.
+-- The administrator's steps, and how they change a cluster.
 use Rattle.std.specs.Prelude.{◌≡◌, ◌≢◌, ◌⊎◌, ℕ, ◌+◌, ◌^◌, Bool, true, false, List, Option, Some, None, Result, Ok, Err}
 use Rattle.std.specs.List.{list_any}
 use Rattle.mds_types.specs.declared.ids.Ino.{Ino}
@@ -28,38 +28,39 @@ use Rattle.cluster_core.specs.Serve.{IsLeft}
 use Rattle.ranked_tree.specs.Exported.{IsAnyFrozen}
 use Rattle.ranked_tree.specs.Subtrees.{AllHave}
 
--- what such a step leaves unseen: the shown tree, and all but the tree's own state and the subtree roots
+-- clients see nothing of such a step: history and shown tree are the same; only the tree's own state and the subtree
+-- roots change
 pub record IsUnseen (old new : State) (past now : List Entry) : Type 0 where
   pub same : now ≡ past
   pub tree : shown new ≡ shown old
   pub left : new ≡ record old { tree = new.tree; roots = new.roots }
 
--- a step that answers has done its work, unseen, and tells what it gave; a refused one has left all, and was refused as
--- the work was
+-- a step with an answer did its work, tells what that gave, and clients see nothing of it; a refused step changed
+-- nothing, for the reason of the work
 abbrev pub Administers : {X : Type 0} → (old new : State) → (past now : List Entry) → (told : X → Answer)
     → (Did : Result X Refusal → Type 0) → Result Answer Refusal → Type 0
 Administers old new past now told Did (Ok answer) =
     (given : _) × (answer ≡ told given) × Did (Ok given) × IsUnseen old new past now
 Administers old new past now told Did (Err reason) = Did (Err reason) × IsLeft old new past now
 
--- so it is with a step that leaves the subtree roots
+-- the same, for a step that changes no subtree roots
 abbrev pub AdministersTree : {X : Type 0} → (old new : State) → (past now : List Entry) → (told : X → Answer)
     → (Did : Result X Refusal → Type 0) → Result Answer Refusal → Type 0
 AdministersTree old new past now told Did result =
     Administers old new past now told Did result × (new.roots ≡ old.roots)
 
--- work that gives nothing is told so
+-- the answer of work that gives nothing
 abbrev pub told_nothing : Unit {0} → Answer
 told_nothing done = Nothing
 
--- the rank is the authority of each leaf of a directory that lies properly inside a fragment
+-- the rank is the authority of each leaf of a directory that is properly inside a fragment
 abbrev pub HoldsInside : State → Rank → Ino → Fragment → Type 0
 HoldsInside state rank dir f = AllHave state.tree.homes state.tree.covers state.roots dir f rank
 
 -- ---- leaves
 
--- why leaves of a directory stay: there is no such directory, or its leaves refuse it; the rank isn't the authority of
--- all that are concerned; one of them is frozen; one is pinned; or for another reason
+-- why leaves of a directory aren't split or merged: there is no such directory; its leaves refuse it; the rank isn't
+-- the authority of all these leaves; one of them is frozen; one is granted; or another reason
 abbrev pub RefusesRegroup : (known : Bool) → (Refuses : Refusal → Type 0) → (Can Mine Frozen Pinned : Type 0)
     → (Else : Refusal → Type 0) → Refusal → Type 0
 RefusesRegroup known Refuses Can Mine IsFrozen IsPinned Else reason =
@@ -70,19 +71,19 @@ RefusesRegroup known Refuses Can Mine IsFrozen IsPinned Else reason =
     ⊎ ((known ≡ true) × Can × Mine × (IsFrozen → ⊥) × (reason ≡ Pinned) × IsPinned)
     ⊎ ((known ≡ true) × Can × Mine × (IsFrozen → ⊥) × (IsPinned → ⊥) × Else reason)
 
--- a grant stands on a leaf
+-- a leaf is granted to some request
 abbrev pub IsPinned : State → Leaf → Type 0
 IsPinned state leaf = list_any (is_on leaf.0 leaf.1) state.pins ≡ true
 
--- a grant stands on a leaf of a directory that lies properly inside a fragment
+-- a leaf of a directory that is properly inside a fragment is granted
 abbrev pub IsAnyPinned : Homes → Covers → List Pin → Ino → Fragment → Type 0
 IsAnyPinned homes covers pins dir frag =
     (leaf : Leaf) × IsLive homes covers leaf × (is_inside dir.0 frag leaf ≡ true)
     × (list_any (is_on leaf.0 leaf.1) pins ≡ true)
 
--- a leaf of the rank's, neither frozen nor pinned, was split by so many bits, and its children are roots if it was one;
--- where it wasn't, the leaves refuse it, or the rank isn't its authority, or it is frozen or pinned, or numbers lack,
--- or the rank lacks as many places as there would be children and one, or the store or memory refused
+-- a leaf of the rank, neither frozen nor granted, was split by so many bits, and its children are subtree roots if it
+-- was one. Or it wasn't split: the leaves refuse it, the rank isn't its authority, it is frozen or granted, a counter
+-- is at its end, the rank lacks places for the children and one more, or the store or memory refused
 abbrev pub SplitsLeaf : (old new : Core) → Rank → Ino → Fragment → ℕ → Result (Unit {0}) Refusal → Type 0
 SplitsLeaf old new rank dir f nb (Ok done) =
     IsAuthority old.state (dir, f) rank × (IsFrozenAt old.state (dir, f) → ⊥) × (IsPinned old.state (dir, f) → ⊥)
@@ -96,16 +97,16 @@ SplitsLeaf old new rank dir f nb (Err reason) =
     (LacksPlacesAt (2 ^ nb + 1) old rank) old.faults new.faults why)
     reason
 
--- a leaf of a directory that lies properly inside a fragment is frozen,
+-- a leaf of a directory that is properly inside a fragment is frozen
 abbrev pub HasFrozenInside : State → Ino → Fragment → Type 0
 HasFrozenInside state dir f = IsAnyFrozen state.exports state.roots state.tree.homes state.tree.covers dir f
 
--- or pinned
+-- a leaf of a directory that is properly inside a fragment is granted
 abbrev pub HasPinnedInside : State → Ino → Fragment → Type 0
 HasPinnedInside state dir f = IsAnyPinned state.tree.homes state.tree.covers state.pins dir f
 
--- the leaves inside a fragment, all the rank's and none frozen or pinned, were merged, and it is a root if one of them
--- was; where they weren't, it was refused so too, and for places where the rank has none
+-- the leaves inside a fragment, all of the rank and none frozen or granted, were merged into one, which is a subtree
+-- root if one of them was. Or they weren't merged, for reasons like those of a split, where the rank needs one place
 abbrev pub MergesLeaves : (old new : Core) → Rank → Ino → Fragment → Result (Unit {0}) Refusal → Type 0
 MergesLeaves old new rank dir f (Ok done) =
     HoldsInside old.state rank dir f × (HasFrozenInside old.state dir f → ⊥) × (HasPinnedInside old.state dir f → ⊥)
@@ -128,8 +129,8 @@ abbrev pub Merges : (old new : Core) → (past now : List Entry) → Rank → In
 Merges old new past now rank dir f result =
     Administers old.state new.state past now told_nothing (MergesLeaves old new rank dir f) result
 
--- the leaves of a directory by value; refused NoSuchFrag exactly where there is no such directory, and else for want of
--- memory
+-- the leaves of a directory in order; refused NoSuchFrag exactly where there is no such directory, otherwise for want
+-- of memory
 abbrev pub ListsLeaves : State → Ino → Result (List Fragment) Refusal → Type 0
 ListsLeaves state dir (Ok leaves) =
     (is_directory (shown state) dir.0 ≡ true) × (leaves ≡ leaves_of state.tree.covers dir.0)
@@ -149,8 +150,8 @@ abbrev pub told_job : Option Begun → Answer
 told_job None = Nothing
 told_job (Some job) = Job job
 
--- a commit of a leaf that isn't frozen begins at its authority; a rank that isn't is refused NotAuthority, and then a
--- frozen leaf Frozen
+-- a commit of a leaf that isn't frozen begins at its authority; another rank is refused NotAuthority; after that a
+-- frozen leaf is refused Frozen
 abbrev pub BeginsAt : (old new : State) → Rank → Leaf → Result (Option Begun) Refusal → Type 0
 BeginsAt old new rank leaf (Ok job) =
     IsAuthority old leaf rank × (IsFrozenAt old leaf → ⊥) × Begins old.tree new.tree leaf (Ok job)
@@ -187,8 +188,8 @@ PurgesObject old new past now result =
     AdministersTree old.state new.state past now told_nothing
     (Purges old.state.tree new.state.tree old.faults new.faults) result
 
--- a clean fragment of those that a rank caches is no longer cached (`UsesStep` says which), and the state is as it was;
--- refused exactly where none is clean
+-- the rank's least recently used clean fragment is evicted (`UsesStep` says which), and the state is the same; refused
+-- exactly where the rank caches no clean fragment
 abbrev pub EvictsOne : (old new : Core) → Rank → Result (Unit {0}) Refusal → Type 0
 EvictsOne old new rank (Ok done) = new.state ≡ old.state
 EvictsOne old new rank (Err reason) = (reason ≡ NothingToEvict) × (evicted old.caches rank.0 None ≡ None)

@@ -1,4 +1,4 @@
--- What was found of a new request at its master. Only this crate's own contracts use these words.
+-- What is known of a new request at its master. Only this crate's own contracts use these words.
 use Rattle.std.specs.Prelude.{◌≡◌, ℕ, List, get_or}
 use Rattle.mds_types.specs.declared.entries.Entry.{Entry}
 use Rattle.mds_types.specs.declared.requests.Request.{Request}
@@ -20,13 +20,13 @@ use Rattle.cluster_core.specs.Master.{IsMasterIn, MayTouchAllIn}
 use Rattle.cluster_core.specs.State.{no_supply}
 use Rattle.cluster_core.specs.declared.parts.Asked.{Asked}
 
--- a client's session is there
+-- this is where a client's session is
 pub record IsSessionOf (sessions : Held) (client : ℕ) (at : SessionAt) : Type 0 where
   pub named : at.client ≡ client
   pub found : IsSessionAt sessions at
 
--- the rank is a request's master, a directory may have so many entries, the rank has these numbers left, and the
--- client's session is there
+-- the rank is the request's master, a directory may have so many entries, the rank has these numbers left, and this is
+-- where the client's session is
 pub record IsAsked (tree : TreeState) (roots : Roots) (numbers : List Supply) (sessions : Held) (asked : Asked)
     (request : Request) : Type 0 where
   pub master : IsMasterIn tree roots asked.rank request.op asked.rank
@@ -38,7 +38,8 @@ pub record IsAsked (tree : TreeState) (roots : Roots) (numbers : List Supply) (s
 abbrev pub IsNewTo : List Entry → Request → Type 0
 IsNewTo history request = IsNew history request.client request.tid request.oldest
 
--- such a request may be applied with this change, which the checks found: the rank may change all that it would
+-- the request may be applied with this change, which the checks found: the rank may change all leaves that it would
+-- change
 pub record MayApply (tree : TreeState) (roots : Roots) (exports : Standing) (pins : List Pin) (numbers : List Supply)
     (sessions : Held) (asked : Asked) (change : Change) (request : Request) : Type 0 where
   pub is_asked : IsAsked tree roots numbers sessions asked request

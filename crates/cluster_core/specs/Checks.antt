@@ -1,4 +1,4 @@
--- The checks of a split and of a merge in their order, as Exporting has those of an export: one form for all events.
+-- The checks of a split and of a merge, in their order and in the form that Exporting has for those of an export.
 use Rattle.std.specs.Prelude.{◌≡◌, ◌⊎◌, ℕ, ◌+◌, ◌-◌, ◌<◌, ◌^◌, false, [], length, Err}
 use Rattle.mds_types.specs.declared.ids.Ino.{Ino}
 use Rattle.mds_types.specs.declared.ids.Rank.{Rank}
@@ -14,7 +14,7 @@ use Rattle.cluster_core.specs.Exporting.{Check}
 use Rattle.cluster_core.specs.Master.{IsAuthority, IsFrozenAt}
 use Rattle.cluster_core.specs.State.{Core, LacksPlacesAt}
 
--- a rank splits a leaf of a directory by so many bits
+-- the checks of a rank that splits a leaf of a directory by so many bits
 abbrev pub SplitChecks : (old new : Core) → Rank → Ino → Fragment → ℕ → Refusal → Type 0
 SplitChecks old new rank dir f nb =
     Check why.NoSuchFrag (IsLive old.state.tree.homes old.state.tree.covers (dir, f) → ⊥)
@@ -26,7 +26,7 @@ SplitChecks old new rank dir f nb =
     (Check why.NoInodes (LacksCounts (2 ^ nb) old.state.tree)
     (MayNotFind (LacksPlacesAt (2 ^ nb + 1) old rank) old.faults new.faults)))))))
 
--- a rank merges the leaves of a directory properly inside a fragment
+-- the checks of a rank that merges the leaves of a directory properly inside a fragment
 abbrev pub MergeChecks : (old new : Core) → Rank → Ino → Fragment → Refusal → Type 0
 MergeChecks old new rank dir f =
     let inside = leaves_inside f (leaves_of old.state.tree.covers dir.0) in
@@ -38,7 +38,7 @@ MergeChecks old new rank dir f =
     (Check why.NoInodes (LacksCounts 1 old.state.tree)
     (MayNotFind (LacksPlacesAt 1 old rank) old.faults new.faults))))))
 
--- what the claim says of a refused split, and of a refused merge, is these
+-- each refusal of a split, and each of a merge, is by these checks
 abbrev pub SplitsByChecks : Type 0
 SplitsByChecks =
     (old new : Core) (rank : Rank) (dir : Ino) (f : Fragment) (nb : ℕ) (reason : Refusal)

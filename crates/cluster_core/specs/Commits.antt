@@ -15,7 +15,7 @@ use Rattle.cluster_core.specs.Sound.{IsSound}
 use Rattle.cluster_core.specs.State.{Core, State}
 use Rattle.cluster_core.specs.Steps.{Steps}
 
--- no step of a sound book touches the object of a fragment for which a job stands before and after it
+-- no step of a sound book changes the object of a fragment with a job that exists before and after the step
 abbrev pub JobsKeepObjects : Type 0
 JobsKeepObjects =
     (opening : Opening) (past now : List Entry) (old new : Core) (result : Result Answer Refusal) (event : Event)
@@ -24,8 +24,8 @@ JobsKeepObjects =
     → map.get new.state.tree.jobs leaf ≡ Some job
     → object_of new.state.tree.objects leaf.0 leaf.1 ≡ object_of old.state.tree.objects leaf.0 leaf.1
 
--- the names that a job's snapshot has over that object, which the commit's end spells, are those that the fragment
--- shows when the job is given out
+-- the end of a commit spells the names that the job's snapshot has over the object. They are the names that the
+-- fragment shows when the job is given out
 abbrev pub JobsTakeWhatIsShown : Type 0
 JobsTakeWhatIsShown = (state : State) (leaf : Leaf) (u : Unsaved) → map.get state.tree.unsaved leaf ≡ Some u
     → names_then (job_for state.tree leaf u).snapshot

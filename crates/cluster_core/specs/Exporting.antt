@@ -1,4 +1,4 @@
--- What the steps of an export do to a cluster (CephFS's Migrator, with this project's own table of steps).
+-- The steps of an export, and how they change a cluster (CephFS's Migrator, with this project's own table of steps).
 use Rattle.std.specs.Prelude.{◌≡◌, ◌≢◌, ◌⊎◌, ℕ, true, List, None, Some, IsSome, Result, Ok, Err}
 use Rattle.std.specs.FinMap as map
 use Rattle.std.specs.List.{Contains}
@@ -25,44 +25,45 @@ use Rattle.cluster_core.specs.Master.{IsAuthority, IsFrozenAt}
 use Rattle.cluster_core.specs.Serve.{IsLeft}
 use Rattle.cluster_core.specs.State.{Core, LacksPlacesAt, State, shown}
 
--- ---- refusals, the first whose check holds
+-- ---- refusals: the first check that holds gives the reason
 
--- refused with this number exactly where this holds; else it goes on
+-- refused with this reason exactly where this holds; otherwise the next checks decide
 abbrev pub Check : Refusal → (Holds : Type 0) → (Else : Refusal → Type 0) → Refusal → Type 0
 Check number Holds Else reason = ((reason ≡ number) × Holds) ⊎ ((Holds → ⊥) × Else reason)
 
--- nothing but want of memory is left,
+-- the last check: the only other reason is want of memory
 abbrev pub ForMemory : Refusal → Type 0
 ForMemory reason = reason ≡ why.NoMemory
 
--- or nothing at all
+-- the last check: there is no other reason
 abbrev pub Never : Refusal → Type 0
 Never reason = ⊥
 
 -- ---- a step of an export
 
--- what such a step leaves unseen: the shown tree, and all but the tree's own state, the subtree roots and the exports
+-- clients see nothing of such a step: history and shown tree are the same; only the tree's own state, the subtree roots
+-- and the exports change
 pub record IsUnseenStep (old new : State) (past now : List Entry) : Type 0 where
   pub same : now ≡ past
   pub tree : shown new ≡ shown old
   pub left : new ≡ record old { tree = new.tree; roots = new.roots; exports = new.exports }
 
--- a step that answers has done its work, unseen, and says no more; a refused one has left all, and was refused as the
--- work was
+-- a step with an answer did its work, tells nothing more, and clients see nothing of it; a refused step changed
+-- nothing, for the reason of the work
 abbrev pub Exports : (old new : Core) → (past now : List Entry) → (Did : Result (Unit {0}) Refusal → Type 0)
     → Result Answer Refusal → Type 0
 Exports old new past now Did (Ok answer) =
     (answer ≡ Nothing) × Did (Ok tt) × IsUnseenStep old.state new.state past now
 Exports old new past now Did (Err reason) = Did (Err reason) × IsLeft old.state new.state past now
 
--- the tree and the subtree roots stay
+-- the tree and the subtree roots are the same
 pub record KeepsTreeAndRoots (old new : State) : Type 0 where
   pub tree : new.tree ≡ old.tree
   pub roots : new.roots ≡ old.roots
 
 -- ---- Start
 
--- an export of a leaf's region may start from its authority to another rank: none of this root stands, and the leaf
+-- an export of a leaf's region may start from its authority to another rank: the root has no export yet, and the leaf
 -- isn't frozen
 pub record MayStart (old : State) (from : Rank) (leaf : Leaf) (to : Rank) : Type 0 where
   pub none : map.get old.exports leaf ≡ None
@@ -71,7 +72,7 @@ pub record MayStart (old : State) (from : Rank) (leaf : Leaf) (to : Rank) : Type
   pub mine : IsAuthority old leaf from
   pub thawed : IsFrozenAt old leaf → ⊥
 
--- it is recorded as started
+-- the export is recorded as started
 abbrev pub StartsIn : (old new : State) → Rank → Leaf → Rank → Result (Unit {0}) Refusal → Type 0
 StartsIn old new from leaf to (Ok done) =
     MayStart old from leaf to × (new.exports ≡ map.insert old.exports leaf (record {
@@ -93,7 +94,7 @@ StartsExport old new past now from leaf to result =
 
 -- ---- Freeze
 
--- a grant stands on a leaf of the region that a leaf has as a subtree root
+-- some leaf in the region that this root has as a subtree root is granted
 abbrev pub HasPinnedUnder : Roots → Homes → Covers → List Pin → Leaf → Type 0
 HasPinnedUnder roots homes covers pins root =
     (pin : Pin) × Contains pins pin × IsUnder roots homes covers root (pin.dir, pin.frag)
@@ -101,13 +102,13 @@ HasPinnedUnder roots homes covers pins root =
 abbrev pub IsRegionPinned : State → Leaf → Type 0
 IsRegionPinned old leaf = HasPinnedUnder old.roots old.tree.homes old.tree.covers old.pins leaf
 
--- a leaf is its exporter's still
+-- the exporter is still the leaf's authority
 abbrev pub IsExporters : State → Leaf → Type 0
 IsExporters old leaf =
     (export : StandingExport) × (map.get old.exports leaf ≡ Some export) × IsAuthority old leaf export.exporter
 
--- the region of a started export may freeze: its root is a leaf still, and its exporter's, and no part of it is frozen
--- or granted
+-- the region of a started export may freeze: its root is still a leaf, whose authority is the exporter, and no part of
+-- it is frozen or granted
 pub record MayFreeze (old : State) (leaf : Leaf) : Type 0 where
   pub started : state_at old.exports leaf ≡ Some state.Started
   pub live : IsLive old.tree.homes old.tree.covers leaf
@@ -115,7 +116,7 @@ pub record MayFreeze (old : State) (leaf : Leaf) : Type 0 where
   pub thawed : IsFrozenAt old leaf → ⊥
   pub free : IsRegionPinned old leaf → ⊥
 
--- it freezes: its root is a subtree root of the exporter, and the jobs of its leaves end
+-- the region freezes: its root is a subtree root of the exporter, and the jobs of its leaves end
 pub record IsFreezeIn (old new : State) (leaf : Leaf) : Type 0 where
   pub step : ComesTo old.exports new.exports leaf state.Started state.Frozen
   pub roots : new.roots ≡ map.insert old.roots leaf step.export.exporter
@@ -134,7 +135,7 @@ FreezesExport old new past now leaf result = Exports old new past now (FreezesIn
 
 -- ---- Prep
 
--- a frozen export is prepared; refused where none of this root stands frozen, or for want of memory
+-- a frozen export is prepared; refused if the root has no frozen export, or for want of memory
 abbrev pub PrepsIn : (old new : State) → Leaf → Result (Unit {0}) Refusal → Type 0
 PrepsIn old new leaf (Ok done) = ComesTo old.exports new.exports leaf state.Frozen state.Prepared × KeepsTreeAndRoots old new
 PrepsIn old new leaf (Err reason) =
@@ -145,8 +146,8 @@ PrepsExport old new past now leaf result = Exports old new past now (PrepsIn old
 
 -- ---- Send
 
--- a prepared export is sent, and these bytes spell what isn't clean of its region; refused where none of this root
--- stands prepared, or a fragment of the region has too many dirty names
+-- a prepared export is sent, and these bytes spell all that isn't clean in its region; refused if the root has no
+-- prepared export, or a fragment of the region has too many dirty names
 abbrev pub SendsAt : (old new : State) → Leaf → Result (List ℕ) Refusal → Type 0
 SendsAt old new leaf (Ok bytes) =
     (step : ComesTo old.exports new.exports leaf state.Prepared state.Sent)
@@ -155,7 +156,7 @@ SendsAt old new leaf (Err reason) =
     Check why.WrongExportState (state_at old.exports leaf ≢ Some state.Prepared)
     (Check why.TooManyFrags (HasTooMany (IsInRegionOf old.tree old.roots leaf) old.tree.unsaved) ForMemory) reason
 
--- its answer is those bytes
+-- the answer of a Send is those bytes
 abbrev pub SendsExport : (old new : Core) → (past now : List Entry) → Leaf → Result Answer Refusal → Type 0
 SendsExport old new past now leaf (Ok answer) =
     (bytes : List ℕ) × (answer ≡ Sent bytes) × SendsAt old.state new.state leaf (Ok bytes)
@@ -163,23 +164,23 @@ SendsExport old new past now leaf (Ok answer) =
 SendsExport old new past now leaf (Err reason) =
     SendsAt old.state new.state leaf (Err reason) × IsLeft old.state new.state past now
 
--- ---- the bytes of a sent export, told anew
+-- ---- the bytes of a sent export, told again
 
--- they spell what isn't clean of its region; refused where none of this root stands sent, or a fragment of the region
--- has too many dirty names
+-- the bytes spell all that isn't clean in the region; refused if the root has no sent export, or a fragment of the
+-- region has too many dirty names
 abbrev pub TellsSentBytes : State → Leaf → Result (List ℕ) Refusal → Type 0
 TellsSentBytes old leaf (Ok bytes) = SpellsSent old.tree old.roots old.exports leaf bytes
 TellsSentBytes old leaf (Err reason) =
     Check why.WrongExportState (state_at old.exports leaf ≢ Some state.Sent)
     (Check why.TooManyFrags (HasTooMany (IsInRegionOf old.tree old.roots leaf) old.tree.unsaved) ForMemory) reason
 
--- told in the state that Send leaves, they are those that Send gave
+-- in the state after a Send, the told bytes are those that the Send gave
 abbrev pub TellsWhatSendGave : Type 0
 TellsWhatSendGave =
     (old new : State) (leaf : Leaf) (bytes told : List ℕ) → SendsAt old new leaf (Ok bytes)
     → TellsSentBytes new leaf (Ok told) → told ≡ bytes
 
--- no state tells two
+-- in one state the told bytes are always the same
 abbrev pub TellsOneBytes : Type 0
 TellsOneBytes =
     (old : State) (leaf : Leaf) (one other : List ℕ) → TellsSentBytes old leaf (Ok one)
@@ -187,7 +188,7 @@ TellsOneBytes =
 
 -- ---- Import
 
--- a sent export is imported: the bytes are those of its region, and its importer has what isn't clean of it, of
+-- a sent export is imported: the bytes are those of its region, and its importer has all that isn't clean in it, with
 -- generation 0
 pub record IsImport (old new : Core) (leaf : Leaf) (bytes : List ℕ) : Type 0 where
   pub step : ComesTo old.state.exports new.state.exports leaf state.Sent state.Imported
@@ -195,8 +196,7 @@ pub record IsImport (old new : Core) (leaf : Leaf) (bytes : List ℕ) : Type 0 w
   pub renewed : IsRenewed (IsInRegionOf old.state.tree old.state.roots leaf) old.state.tree new.state.tree
   pub roots : new.state.roots ≡ old.state.roots
 
--- refused where none of this root stands sent; where one does, for other bytes, for want of places of the importer, or
--- of memory
+-- refused if the root has no sent export; if the bytes are others; if the importer lacks places; or for want of memory
 abbrev pub ImportsExport : (old new : Core) → (past now : List Entry) → Leaf → (bytes : List ℕ) → Result Answer Refusal
     → Type 0
 ImportsExport old new past now leaf bytes (Ok answer) =
@@ -206,7 +206,7 @@ ImportsExport old new past now leaf bytes (Err reason) =
     bytes reason
     × IsLeft old.state new.state past now
 
--- bytes that the state tells are never damaged to it
+-- an Import never refuses the told bytes as damaged
 abbrev pub ImportsWhatIsTold : Type 0
 ImportsWhatIsTold =
     (old new : Core) (past now : List Entry) (leaf : Leaf) (bytes : List ℕ) (object : ObjName)
@@ -214,7 +214,7 @@ ImportsWhatIsTold =
 
 -- ---- Finish
 
--- the importer of an imported region, which holds it, is its authority, and the export is over
+-- the importer of an imported region, which holds it, becomes its authority, and the export ends
 pub record IsFinishIn (old new : State) (leaf : Leaf) : Type 0 where
   pub export : StandingExport
   pub stood : map.get old.exports leaf ≡ Some export
@@ -223,7 +223,7 @@ pub record IsFinishIn (old new : State) (leaf : Leaf) : Type 0 where
   pub roots : new.roots ≡ map.insert old.roots leaf export.importer
   pub tree : new.tree ≡ old.tree
 
--- refused exactly where no imported export of this root stands
+-- refused exactly where the root has no imported export
 abbrev pub FinishesIn : (old new : State) → Leaf → Result (Unit {0}) Refusal → Type 0
 FinishesIn old new leaf (Ok done) = IsFinishIn old new leaf
 FinishesIn old new leaf (Err reason) =
@@ -239,7 +239,7 @@ abbrev pub IsUnsent : State → Leaf → Type 0
 IsUnsent old leaf =
     (export : StandingExport) × (map.get old.exports leaf ≡ Some export) × (is_before_send export.state ≡ true)
 
--- an export that isn't sent yet ends; a subtree root stays one. Refused exactly where there is none
+-- an export that isn't sent yet ends, and its subtree root stays; refused exactly where the root has no such export
 abbrev pub CancelsAt : (old new : State) → Leaf → Result (Unit {0}) Refusal → Type 0
 CancelsAt old new leaf (Ok done) = IsUnsent old leaf × (new.exports ≡ map.remove old.exports leaf) × KeepsTreeAndRoots old new
 CancelsAt old new leaf (Err reason) = Check why.WrongExportState (IsUnsent old leaf → ⊥) Never reason

@@ -1,4 +1,4 @@
--- What stays true where a beginning of the history is forgotten.
+-- Forgetting a beginning of the history, and what stays true.
 use Rattle.std.specs.Prelude.{◌≡◌, ℕ, ◌<◌, ◌≤◌, ◌-◌, ◌⊎◌, ◌++◌, List, None, drop, length, take}
 use Rattle.std.specs.List.{slice_index_or}
 use Rattle.mds_types.specs.declared.entries.Entry.{Entry}
@@ -8,8 +8,8 @@ use Rattle.sessions.specs.Aside.{StopsForgetting, forget_all}
 use Rattle.cluster_core.specs.Sound.{StandsBehind, IsSoundBehind}
 use Rattle.cluster_core.specs.State.{Core, KeptState, shown, with_sessions}
 
--- a book forgets so many of the first entries of its history, and keeps at least so many of the last: what the contract
--- of `Book::forget` says. The replies that are kept of these entries are in the sessions then; nothing else changes
+-- a book forgets so many entries from the front of its history, and keeps at least so many of the last, by all that the
+-- contract of `Book::forget` says. The kept replies of these entries move to the sessions; nothing else changes
 pub record Forgets (keep : ℕ) (old new : KeptState) : Type 0 where
   pub count : ℕ
   pub few : count ≤ length old.history - keep
@@ -23,21 +23,21 @@ pub record Forgets (keep : ℕ) (old new : KeptState) : Type 0 where
   pub goes_on : (opening : Opening) (past : List Entry) → StandsBehind opening past old
       → StandsBehind opening (past ++ take count old.history) new
 
--- what is forgotten, put before what isn't, is one legal history, and what is shown is the tree after it
+-- the forgotten entries and those behind them are one legal history, and the shown tree is the tree after it
 abbrev pub AllIsOneHistory : Type 0
 AllIsOneHistory =
     (opening : Opening) (past : List Entry) (book : KeptState) → StandsBehind opening past book
     → IsLegalFrom book.core.state.tree.limit opening (past ++ book.history)
     × (shown book.core.state ≡ after_from book.core.state.tree.limit opening (past ++ book.history))
 
--- whatever beginning of it is forgotten, with its kept replies set aside
+-- any beginning of the history may be forgotten, if its kept replies are set aside
 abbrev pub ABeginningMayGo : Type 0
 ABeginningMayGo =
     (opening : Opening) (past history : List Entry) (core : Core) (n : ℕ) → IsSoundBehind opening past history core
     → IsSoundBehind opening (past ++ take n history) (drop n history)
     (with_sessions core (forget_all core.state.sessions (take n history)))
 
--- and no request that was applied is new again: it is too old, or has its reply at its place
+-- no request that was applied is new again: it is too old, or has its reply at its place
 abbrev pub NoneIsNewAgain : Type 0
 NoneIsNewAgain =
     (history : List Entry) (place oldest : ℕ) (e : Entry) → place < length history → e ≡ slice_index_or history place e

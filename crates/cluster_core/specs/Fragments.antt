@@ -1,5 +1,5 @@
 -- Where fragments are cached (Weil et al., OSDI 2006: a metadata server caches what it is the authority of; while a
--- subtree moves, CephFS's importer has it before the authority does).
+-- subtree moves, CephFS's importer has it before it becomes the authority).
 use Rattle.std.specs.Prelude.{◌≡◌, Some}
 use Rattle.std.specs.FinMap as map
 use Rattle.mds_types.specs.declared.ids.Rank.{Rank}
@@ -9,8 +9,8 @@ use Rattle.dentry_cache.specs.CacheMap.{here}
 use Rattle.cluster_core.specs.Master.{IsHolder}
 use Rattle.cluster_core.specs.State.{Core}
 
--- a rank caches only what it holds; and a fragment that isn't clean lies, as it stands, in the cache of the rank that
--- holds it
+-- a rank caches only what it holds; and a fragment that isn't clean is in the cache of the rank that holds it, with
+-- exactly its unclean content
 pub record LieAtHolder (core : Core) : Type 0 where
   pub held : (rank : Rank) (leaf : Leaf) (f : Cached) → here core.caches rank.0 leaf ≡ Some f
       → IsHolder core.state leaf rank

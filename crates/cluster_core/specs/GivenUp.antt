@@ -1,4 +1,4 @@
--- A request that waits is given up.
+-- Giving up a request that waits.
 use Rattle.std.specs.Prelude.{◌≡◌, List, [], ◌∷◌}
 use Rattle.mds_types.specs.declared.ids.Rank.{Rank}
 use Rattle.mds_types.specs.declared.requests.Request.{Request}
@@ -11,7 +11,7 @@ use Rattle.cluster_core.specs.State.{Core, KeptState}
 abbrev pub with_waiters : Core → Inboxes → List Pin → Core
 with_waiters core inboxes pins = record core { state = record core.state { inboxes = inboxes; pins = pins } }
 
--- the request at the front has left the rank's inbox, with its grants; where none waits nothing happened
+-- the request at the front left the rank's inbox, with its grants; if none waits, nothing happened
 abbrev pub GivesUpIn : (old new : Core) → Rank → List Request → Type 0
 GivesUpIn old new rank [] = new ≡ old
 GivesUpIn old new rank (request ∷ rest) =

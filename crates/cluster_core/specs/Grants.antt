@@ -1,4 +1,4 @@
--- A rank grants a waiting request that another rank changes its fragments.
+-- Grants: a rank lets a waiting request that another rank serves change the rank's fragments.
 use Rattle.std.specs.Prelude.{◌≡◌, ◌≢◌, ◌⊎◌, ◌↔◌, ◌<◌, ℕ, List, [], ◌∷◌, length, Option, Some, None, Result, Ok, Err}
 use Rattle.std.specs.List.{Contains}
 use Rattle.mds_types.specs.declared.entries.Entry.{Entry}
@@ -21,17 +21,17 @@ use Rattle.cluster_core.specs.Serve.{IsLeft}
 use Rattle.cluster_core.specs.State.{State}
 use Rattle.ranked_tree.specs.Subtrees.{Rules}
 
--- a leaf that a request would change now, and of which the rank is the authority
+-- a leaf that a request would change now, and whose authority is the rank
 pub record IsGranted (state : State) (rank : Rank) (op : Op) (leaf : Leaf) : Type 0 where
   pub changes : Contains (would_change state op) leaf
   pub mine : IsAuthority state leaf rank
 
--- the grants with one of each of these leaves for this client and number; one that stands stays as it is
+-- the grants, with one of each of these leaves for this client and number; a grant that exists stays the same
 abbrev pub with_grants : List Pin → List Leaf → (client tid : ℕ) → List Pin
 with_grants pins [] client tid = pins
 with_grants pins (leaf ∷ leaves) client tid = with_grants (with_pin pins (grant_of leaf client tid)) leaves client tid
 
--- the rank granted the request all of its leaves that it would change, of which there are some, and none is frozen;
+-- the rank granted the request all of the rank's leaves that it would change: at least one, and none of them frozen;
 -- nothing else changes
 pub record Grants (old new : State) (past now : List Entry) (rank : Rank) (client tid : ℕ) (op : Op)
     (answer : Answer) : Type 0 where
@@ -44,7 +44,8 @@ pub record Grants (old new : State) (past now : List Entry) (rank : Rank) (clien
   pub left : new ≡ record old { pins = with_grants old.pins leaves client tid }
 
 -- refused NotAuthority exactly where there is no such leaf, and Frozen exactly where one of them is frozen, unless the
--- tree refused to tell, and for want of memory; never for want of a number, since a grant takes none; all is left
+-- tree can't tell; also for want of memory. Never refused for want of a number, since a grant takes none. Nothing
+-- changes
 abbrev pub RefusesGrant : (old new : State) → (past now : List Entry) → (MayRefuse : Op → Refusal → Type 0) → Rank → Op
     → Refusal → Type 0
 RefusesGrant old new past now MayRefuse rank op reason =
@@ -59,8 +60,8 @@ GrantsRequest old new past now MayRefuse rank client tid op (Ok answer) =
 GrantsRequest old new past now MayRefuse rank client tid op (Err reason) =
     RefusesGrant old new past now MayRefuse rank op reason
 
--- of the first waiting copy of the request; InboxEmpty exactly where none waits. Whether it was applied before plays no
--- part
+-- the first waiting copy of the request is granted; refused InboxEmpty exactly where none waits. Whether it was applied
+-- before doesn't matter
 abbrev pub GrantsFirst : (old new : State) → (past now : List Entry) → (MayRefuse : Op → Refusal → Type 0) → Rank
     → (client tid : ℕ) → Result Answer Refusal → Option Request → Type 0
 GrantsFirst old new past now MayRefuse rank client tid result None = (result ≡ Err InboxEmpty) × IsLeft old new past now
@@ -74,7 +75,7 @@ GrantsWaiting old new past now MayRefuse rank client tid result =
 
 -- ---- words of this crate's own contracts
 
--- those of some leaves of which a rank is the authority
+-- those leaves, of these, whose authority is a rank
 abbrev pub AreHeldAmong : TreeState → Roots → Rank → (leaves held : List Leaf) → Type 0
 AreHeldAmong tree roots rank [] held = held ≡ []
 AreHeldAmong tree roots rank (leaf ∷ leaves) held =
@@ -86,18 +87,18 @@ AreHeldAmong tree roots rank (leaf ∷ leaves) held =
 abbrev pub HoldsOne : TreeState → Roots → Rank → List Leaf → Type 0
 HoldsOne tree roots rank leaves = (leaf : Leaf) × Contains leaves leaf × Rules tree roots leaf rank
 
--- one of these leaves is frozen,
+-- one of these leaves is frozen
 abbrev pub IsOneFrozen : TreeState → Roots → Standing → List Leaf → Type 0
 IsOneFrozen tree roots exports leaves =
     (leaf : Leaf) × Contains leaves leaf × IsFrozen exports roots tree.homes tree.covers leaf
 
--- or none is
+-- none of these leaves is frozen
 abbrev pub AreThawedEach : TreeState → Roots → Standing → List Leaf → Type 0
 AreThawedEach tree roots exports leaves =
     (leaf : Leaf) → Contains leaves leaf → IsFrozen exports roots tree.homes tree.covers leaf → ⊥
 
--- why none of some leaves are found that it is the authority of and may grant: it is of none, or for want of memory,
--- where it is of one; or one of those is frozen
+-- why a rank can grant none of these leaves: it is the authority of none; or it is of some, and memory is refused, or
+-- one of those is frozen
 abbrev pub FindsNone : TreeState → Roots → Standing → Rank → List Leaf → Refusal → Type 0
 FindsNone tree roots exports rank leaves reason =
     ((reason ≡ NotAuthority) × AreHeldAmong tree roots rank leaves [])

@@ -1,4 +1,4 @@
--- Which rank answers a request, and which fragments it may change (Weil et al., OSDI 2006; this project's own profile).
+-- The master of a request, and the fragments that it may change (Weil et al., OSDI 2006; this project's own profile).
 use Rattle.std.specs.Prelude.{◌≡◌, ◌⊎◌, ℕ, ◌<◌, true, MatchBool, List, Option, Some, None}
 use Rattle.std.specs.List.{Contains, list_any}
 use Rattle.mds_types.specs.declared.dentries.Dentry.{Dentry}
@@ -24,7 +24,7 @@ use Rattle.mdcache.specs.State.{State as TreeState}
 use Rattle.cluster_core.specs.State.{State, held_roots}
 use Rattle.ranked_tree.specs.Subtrees.{HoldsAt, Rules}
 
--- the leaf of a dentry; where there is none, the first leaf of a directory, that of the hash 0
+-- the leaf of a dentry; if there is no dentry, the first leaf of a directory, which has the hash 0
 abbrev pub leaf_at : Covers → ℕ → Option Dentry → Leaf
 leaf_at covers dir None = in_directory dir (pick_of (leaves_of covers dir) 0)
 leaf_at covers dir (Some dentry) = fragment_of covers dentry
@@ -33,8 +33,8 @@ leaf_at covers dir (Some dentry) = fragment_of covers dentry
 abbrev pub main_leaf : Covers → Op → Leaf
 main_leaf covers op = leaf_at covers (destination_of op) (main_dentry op)
 
--- the master of an operation at a rank: the authority of its main leaf; where its directory, of a rename the
--- destination's, isn't there, the rank itself
+-- the master of an operation at a rank: the authority of its main leaf. If the directory (of a rename, the
+-- destination's) doesn't exist, it is the rank itself
 abbrev pub IsMasterIn : TreeState → Roots → Rank → Op → Rank → Type 0
 IsMasterIn tree roots rank op master =
     MatchBool (is_directory (shown_tree tree) (destination_of op)) (Rules tree roots (main_leaf tree.covers op) master)
@@ -47,21 +47,20 @@ IsMaster state rank op master = IsMasterIn state.tree state.roots rank op master
 abbrev pub IsAuthority : State → Leaf → Rank → Type 0
 IsAuthority state leaf rank = Rules state.tree state.roots leaf rank
 
--- the rank that holds a leaf in a cluster's state, and caches it: its authority, but from Import to Finish the importer
--- of its region
+-- the holder of a leaf, which caches it: its authority, but from Import to Finish the importer of its region
 abbrev pub IsHolder : State → Leaf → Rank → Type 0
 IsHolder state leaf rank = Rules state.tree (held_roots state) leaf rank
 
--- a leaf changes no more until the export of its region ends
+-- a leaf is frozen: it changes no more until the export of its region ends
 abbrev pub IsFrozenAt : State → Leaf → Type 0
 IsFrozenAt state leaf = IsFrozen state.exports state.roots state.tree.homes state.tree.covers leaf
 
--- the grant of a leaf for a request
+-- the grant of a leaf to a request
 abbrev pub grant_of : Leaf → (client tid : ℕ) → Pin
 grant_of leaf client tid = record { dir = leaf.0; frag = leaf.1; client = client; tid = tid }
 
--- a rank may change a leaf for a request: the leaf isn't frozen, and the rank is its authority, or it is granted for
--- that request
+-- a rank may change a leaf for a request: the leaf isn't frozen, and the rank is its authority or the leaf is granted
+-- to the request
 abbrev pub MayTouchIn : TreeState → Roots → Standing → List Pin → Rank → (client tid : ℕ) → Leaf → Type 0
 MayTouchIn tree roots exports pins rank client tid leaf =
     (IsFrozen exports roots tree.homes tree.covers leaf → ⊥)
@@ -79,7 +78,7 @@ abbrev pub MayTouchEach : TreeState → Roots → Standing → List Pin → Rank
 MayTouchEach tree roots exports pins rank client tid leaves =
     (leaf : Leaf) → Contains leaves leaf → MayTouchIn tree roots exports pins rank client tid leaf
 
--- a rank may change all that a request would change
+-- a rank may change all leaves that a request would change
 abbrev pub MayTouchAllIn : TreeState → Roots → Standing → List Pin → Rank → (client tid : ℕ) → Op → Type 0
 MayTouchAllIn tree roots exports pins rank client tid op =
     MayTouchEach tree roots exports pins rank client tid (would_change_in tree op)
@@ -95,7 +94,7 @@ pub record LacksOneOf (tree : TreeState) (roots : Roots) (exports : Standing) (p
   pub changes : Contains leaves leaf
   pub barred : MayTouchIn tree roots exports pins rank client tid leaf → ⊥
 
--- an operation would change a leaf that is frozen, or one of another authority, which hasn't granted it
+-- an operation would change a leaf that is frozen, or a leaf of another authority that isn't granted to the request
 abbrev pub MustWaitIn : TreeState → Roots → Standing → List Pin → Rank → (client tid : ℕ) → Op → Type 0
 MustWaitIn tree roots exports pins rank client tid op =
     LacksOneOf tree roots exports pins rank client tid (would_change_in tree op)
@@ -111,7 +110,7 @@ abbrev pub AreMastersThere : TreeState → Roots → Rank → ℕ → Type 0
 AreMastersThere tree roots rank count =
     (op : Op) (master : Rank) → IsMasterIn tree roots rank op master → master.0 < count
 
--- the checks of an operation found this, offered some number, where leaves lie at the ranks that hold them
+-- the checks of an operation gave this result, for some offered number, and with each leaf at its holder
 abbrev pub IsCheckedIn : TreeState → Roots → Op → Checked → Type 0
 IsCheckedIn tree roots op checked =
     (n : ℕ)

@@ -1,4 +1,4 @@
--- The cluster over a store as it is found.
+-- The cluster over a mounted store.
 use Rattle.std.specs.Prelude.{◌≡◌, ◌⊎◌, ℕ, [], replicate}
 use Rattle.std.specs.FinMap as map
 use Rattle.mds_types.specs.Tree.{Tree}
@@ -11,15 +11,15 @@ use Rattle.ranked_tree.specs.Mounted.{AreTopRoots}
 use Rattle.sessions.specs.Table.{no_table}
 use Rattle.cluster_core.specs.State.{Core, new_state}
 
--- the cluster over a store that has no object, as `format` makes it: nothing but the root's leaf is cached
+-- the cluster over a store that has no object, as `format` makes it: only the root's leaf is cached
 pub record IsNewCore (limit ranks places : ℕ) (core : Core) : Type 0 where
   pub state : core.state ≡ new_state ranks limit
   pub caches : core.caches ≡ new_caches ranks places
 
--- the cluster over a store that was walked, where a directory may have so many entries, whatever they have: the tree
--- has what the walk found, and the objects that weren't reached are to be removed; the leaves of the root directory are
--- rank 0's; no export stands; each rank has the numbers after the greatest of its range; nothing waits, is granted or
--- is kept; and nothing is cached
+-- the cluster over a store that was walked. A directory may have so many entries, even if it already has more. The tree
+-- is what the walk found, and the objects that it didn't reach are on the purge list. The authority of the root
+-- directory's leaves is rank 0, and there is no export. Each rank has the numbers after the greatest of its range.
+-- Nothing waits, is granted, is kept for a client, or is cached
 pub record IsMountedCore (limit : ℕ) (objects : Objects) (ranks places : ℕ) (opening : Tree)
     (core : Core) : Type 0 where
   pub walked : IsWalked objects opening core.state.tree.homes core.state.tree.covers core.state.tree.purge
@@ -34,7 +34,7 @@ pub record IsMountedCore (limit : ℕ) (objects : Objects) (ranks places : ℕ) 
   pub sessions : core.state.sessions ≡ no_table
   pub caches : core.caches ≡ no_caches ranks places
 
--- a store with no object is mounted as a new one, any other as a walk finds it
+-- a store that has no object gives a new cluster; any other store gives what a walk finds
 abbrev pub MountsCore : ℕ → Objects → (ranks places : ℕ) → Tree → Core → Type 0
 MountsCore limit objects ranks places opening core =
     ((objects ≡ map.empty) × (opening ≡ map.empty) × IsNewCore limit ranks places core)

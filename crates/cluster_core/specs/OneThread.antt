@@ -1,6 +1,6 @@
--- One plain tree, served by one thread: what whoever sends requests may rely on, in words of that tree alone. It reads
--- on from the plain tree, the shapes of operations, their table, and histories, and no word stands here of ranks,
--- fragments, caches or objects.
+-- One plain tree, served by one thread: all that whoever sends requests may rely on, in words of that tree alone. To
+-- read it one needs the plain tree, the shapes of operations, the operation table, and histories. It has no word of
+-- ranks, fragments, caches or objects.
 use Rattle.std.specs.Prelude.{◌≡◌, ◌≤◌, ◌<◌, ◌+◌, ◌-◌, ◌++◌, ◌∷◌, [], ℕ, nat_eq, cond, false, MatchBool, List, length, take, Contains, flat_map, Result, Ok, Err}
 use Rattle.std.specs.List.{AllByRecursion, list_any, slice_index_or}
 use Rattle.mds_types.specs.declared.entries.Entry.{Entry}
@@ -21,19 +21,19 @@ abbrev pub arrival : Event → List Request
 arrival (Arrive rank request) = request ∷ []
 arrival other = []
 
--- those that events bring
+-- the requests that events bring
 abbrev pub arrivals : List Event → List Request
 arrivals events = flat_map arrival events
 
--- those that wait, at whichever rank
+-- the requests that wait, at all ranks
 abbrev pub waiting_in : List (List Request) → List Request
 waiting_in inboxes = flat_map (λ inbox. inbox) inboxes
 
--- an entry is one of these requests as it was sent: its client, its two numbers, its operation
+-- an entry is of one of these requests, as it was sent: its client, its two numbers, its operation
 abbrev pub IsSent : List Request → Entry → Type 0
 IsSent sent e = Contains sent (record { client = e.client; tid = e.tid; oldest = e.oldest; op = e.op })
 
--- ---- what was told
+-- ---- the replies
 
 -- the receipt of a result, if it is a reply
 abbrev pub receipt_of : Result Answer Refusal → List Receipt
@@ -82,18 +82,18 @@ pub record Stand (history : List Entry) (from : ℕ) (receipts : List Receipt) :
   pub newer : AllByRecursion (λ place. from ≤ place) (first_places receipts)
   pub apart : NoneTwice (first_places receipts)
 
--- receipts agree with a history from a place on: they stand in it, and those marked first are as many as the history
--- has places from there on
+-- receipts agree with a history from a place on: the history holds them, and those marked first are as many as the
+-- history has places from there on
 pub record Agree (history : List Entry) (from : ℕ) (receipts : List Receipt) : Type 0 where
   pub stand : Stand history from receipts
   pub as_many : length (first_places receipts) ≡ length history - from
 
 -- ---- one thread
 
--- one plain tree served by one thread: behind what had been applied before, some of the requests that were sent were
--- applied one after the other, each as it was sent; that history is legal from the opening tree; each reply that was
--- handed out was asked for by one of those requests, and stands in the history at its place; and of the replies one
--- marked first was handed out for each new place, and no other is marked so
+-- one plain tree served by one thread. Behind the entries applied before, some of the requests that were sent were
+-- applied one after the other, each as it was sent. The whole history is legal from the opening tree. Each reply that
+-- was handed out was asked for by one of those requests, and the history holds it at its place. For each new place
+-- exactly one reply marked first was handed out, and no other reply is marked so
 pub record IsOneThread (limit : ℕ) (opening : Opening) (past history : List Entry) (sent : List Request)
     (told : List Receipt) : Type 0 where
   pub more : List Entry
@@ -103,15 +103,15 @@ pub record IsOneThread (limit : ℕ) (opening : Opening) (past history : List En
   pub asked_for : AllByRecursion (IsAskedFor sent) told
   pub agree : Agree history (length past) told
 
--- and in the order of the replies, where that is known: so many had been applied before the first of them. One marked
--- first names the next place, any other one that is there already; and so many are applied at the end
+-- the same in the order of the replies, where that is known: before the first of them so many requests were applied; a
+-- reply marked first names the next place, any other reply an earlier place; and at the end so many are applied
 abbrev pub InOrder : ℕ → List Receipt → ℕ → Type 0
 InOrder count [] end = end ≡ count
 InOrder count (r ∷ rs) end =
     MatchBool r.first ((r.place ≡ count) × InOrder (count + 1) rs end) ((r.place < count) × InOrder count rs end)
 
--- so it is at each moment of a run: when so many of its events had been, the replies to these were those of one thread
--- that serves the requests which waited before the run, or had come by then. So none is applied before it is sent
+-- the same at each moment of a run: after any number of its events, the replies so far are those of one thread that
+-- serves the requests that waited before the run or have arrived since. So no request is applied before it is sent
 abbrev pub IsOneThreadThroughout : ℕ → Opening → (past history : List Entry) → (waited : List Request) → List Event
     → List (Result Answer Refusal) → Type 0
 IsOneThreadThroughout limit opening past history waited events results =

@@ -1,4 +1,4 @@
--- The pins of directories, CephFS's `ceph.dir.pin`: which rank an administrator wants a subtree at.
+-- The pins of directories, CephFS's `ceph.dir.pin`: the rank at which an administrator wants a subtree.
 use Rattle.std.specs.Prelude.{◌≡◌, ℕ, Some, None}
 use Rattle.std.specs.FinMap as map
 use Rattle.mds_types.specs.declared.ids.Rank.{Rank}

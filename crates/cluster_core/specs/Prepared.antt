@@ -1,4 +1,4 @@
--- What stands beside the tree once a change is made. Only this crate's own contracts use these words.
+-- What the cluster keeps beside the tree after a change. Only this crate's own contracts use these words.
 use Rattle.std.specs.Prelude.{◌≡◌, ◌⊎◌, true, false, cond, Option, None}
 use Rattle.mds_types.specs.declared.ids.Ino.{Ino}
 use Rattle.mds_types.specs.declared.refusals.Refusal.{Refusal}
@@ -9,8 +9,8 @@ use Rattle.namespace_ops.specs.Changes.{reply_of}
 use Rattle.cluster_core.specs.Offer.{after_taking}
 use Rattle.cluster_core.specs.declared.applying.Prepared.{Prepared}
 
--- what stands beside the tree once a change is made, offered the next number of a supply: the number that it takes, its
--- reply twice, and the directory that goes
+-- what is prepared for a change that is offered the next number of a supply: the number that it takes, two copies of
+-- its reply, and the directory that it removes
 pub record IsPrepared (change : Change) (numbers : Supply) (prepared : Prepared) : Type 0 where
   pub replied : prepared.reply ≡ reply_of change
   pub copied : prepared.answer ≡ reply_of change
@@ -19,7 +19,7 @@ pub record IsPrepared (change : Change) (numbers : Supply) (prepared : Prepared)
   pub drawn : prepared.numbers ≡ after_taking numbers prepared.number
   pub went : prepared.went ≡ change.gone
 
--- why it isn't: want of memory, or a new inode comes, and no number is offered
+-- why nothing is prepared: want of memory; or the change makes an inode, and no number is offered
 abbrev pub WhyUnprepared : Change → Option Ino → Refusal → Type 0
 WhyUnprepared change offered reason =
     (reason ≡ NoMemory) ⊎ ((reason ≡ NoInodes) × (offered ≡ None) × (change.comes ≡ true))

@@ -1,6 +1,6 @@
 -- The proposal of a rank's own step (CephFS's balancer and its subtree pins, with this project's own order of steps):
--- an export that it goes on with, a leaf that it splits, leaves that it merges, or a subtree that it begins to hand to
--- the rank that the subtree is pinned to.
+-- the next step of an export, the split of a leaf, the merge of leaves, or the start of an export to the rank that a
+-- subtree is pinned to.
 use Rattle.std.specs.Prelude.{◌≡◌, ◌≢◌, ◌⊎◌, ℕ, ◌<◌, ◌≤◌, Bool, false, cond, List, [], ◌∷◌, length, Option, Some, None, IsSome, Result, Ok, Err}
 use Rattle.std.specs.List.{list_any}
 use Rattle.std.specs.declared.cmp.Ordering.TheVariants.{Less}
@@ -28,9 +28,8 @@ use Rattle.cluster_core.specs.declared.events.Event.TheVariants.{Arrive, Serve, 
 use Rattle.cluster_core.specs.Pins.{HasPin}
 use Rattle.cluster_core.specs.State.{Core}
 
--- what a rank goes by when it proposes: how many ranks there are, the directories and their leaves, whose they are, the
--- exports, the pins, the leaves on which a grant stands, and the fragments that it caches, each with its number of
--- entries
+-- all that a rank's proposal depends on: the number of ranks, the directories and their leaves, the authorities, the
+-- exports, the pins, the leaves that are granted, and the fragments that it caches, each with its number of entries
 pub record Sight : Type 0 where
   pub rank : Rank
   pub ranks : ℕ
@@ -42,33 +41,33 @@ pub record Sight : Type 0 where
   pub granted : Leaf → Bool
   pub cached : Sizes
 
--- a live leaf of the rank's authority
+-- a live leaf whose authority is the rank
 pub record IsMine (s : Sight) (leaf : Leaf) : Type 0 where
   pub live : IsLive s.homes s.covers leaf
   pub mine : HasAuthority s.roots s.homes s.covers leaf s.rank
 
--- no part of a frozen region
+-- a leaf in no frozen region
 abbrev pub IsThawed : Sight → Leaf → Type 0
 IsThawed s leaf = IsFrozen s.exports s.roots s.homes s.covers leaf → ⊥
 
--- a leaf that the rank may regroup: its own, neither frozen nor granted
+-- a leaf that the rank may split or merge: it is the authority, and the leaf is neither frozen nor granted
 pub record IsIdle (s : Sight) (leaf : Leaf) : Type 0 where
   pub own : IsMine s leaf
   pub thawed : IsThawed s leaf
   pub free : s.granted leaf ≡ false
 
--- ---- first: an export of the rank's goes on
+-- ---- first: the next step of an export whose exporter is the rank
 
--- a started export can be frozen: its root is the rank's own and thawed, and no leaf of the region that it is to be has
--- a grant
+-- a started export can be frozen: the rank is the authority of its root, which isn't frozen, and no leaf of the region
+-- to be frozen is granted
 pub record WouldFreeze (s : Sight) (root : Leaf) : Type 0 where
   pub own : IsMine s root
   pub thawed : IsThawed s root
   pub free : (leaf : Leaf) → NearestRoot (map.insert s.roots root s.rank) s.homes s.covers leaf root
       → s.granted leaf ≡ false
 
--- the next step of an export by its state; a started one whose root ended or is another's is cancelled, and one that
--- can't be frozen now has no next step
+-- the next step of an export, from its state. A started one is cancelled if its root no longer exists or has another
+-- authority; it has no next step if it can't be frozen now
 abbrev pub IsNextStep : Sight → Leaf → ExportState → Event → Type 0
 IsNextStep s root at.Started event =
     ((event ≡ Freeze root.0 root.1) × WouldFreeze s root) ⊎ ((event ≡ Cancel root.0 root.1) × (IsMine s root → ⊥))
@@ -98,12 +97,12 @@ pub record AreSmall (s : Sight) (whole : Leaf) (event : Event) : Type 0 where
   pub idle : (i : ℕ) → i < 8 → IsIdle s (child whole i)
   pub is : event ≡ Merge s.rank whole.0 whole.1
 
--- ---- fourth: a subtree whose directory is pinned to another rank starts for that rank
+-- ---- fourth: an export starts of a subtree whose directory is pinned to another rank
 
 pub record IsPinnedAway (s : Sight) (leaf : Leaf) (event : Event) : Type 0 where
   pub to : Rank
   pub own : IsMine s leaf
-  -- it is a subtree root, or its directory has a pin of its own
+  -- the leaf is a subtree root, or its directory has a pin of its own
   pub place : IsSome (map.get s.roots leaf) ⊎ IsSome (map.get s.pins leaf.0.0)
   pub pin : HasPin s.pins s.homes leaf.0.0 to
   pub other : to ≢ s.rank
@@ -114,7 +113,7 @@ pub record IsPinnedAway (s : Sight) (leaf : Leaf) (event : Event) : Type 0 where
 
 -- ---- the proposal
 
--- the kinds of steps, in the order in which a rank thinks of them
+-- the kinds of steps, in their order
 pub data Kind : Type 0 where
   OfExport : Kind
   OfLarge : Kind
@@ -131,18 +130,18 @@ Would s OfLarge leaf event = IsLarge s leaf event
 Would s OfSmall leaf event = AreSmall s leaf event
 Would s OfPin leaf event = IsPinnedAway s leaf event
 
--- it would make none of a kind
+-- the rank would make no step of this kind
 abbrev pub WouldNot : Sight → Kind → Type 0
 WouldNot s kind = (leaf : Leaf) (event : Event) → Would s kind leaf event → ⊥
 
--- the step at the least leaf at which it would make one of a kind: by inode, then value, then bits
+-- the step of this kind at the least leaf at which the rank would make one: by inode, then value, then bits
 pub record IsLeast (s : Sight) (kind : Kind) (event : Event) : Type 0 where
   pub leaf : Leaf
   pub would : Would s kind leaf event
   pub least : (other : Leaf) (another : Event) → Would s kind other another → (other ≡ leaf)
       ⊎ (leaf_cmp leaf other ≡ Less)
 
--- the first of these kinds of which it would make a step gives the least; without any there is none
+-- the least step of the first of these kinds that has one; none if no kind has one
 abbrev pub IsFirstKindOf : Sight → List Kind → Option Event → Type 0
 IsFirstKindOf s [] None = Unit {0}
 IsFirstKindOf s [] (Some event) = ⊥
@@ -153,7 +152,7 @@ IsFirstKindOf s (kind ∷ others) (Some event) = IsLeast s kind event ⊎ (Would
 abbrev pub IsProposal : Sight → Option Event → Type 0
 IsProposal s event = IsFirstKindOf s kinds event
 
--- the steps that a rank makes of its own
+-- the steps that a rank may propose
 abbrev pub IsOwnStep : Event → Type 0
 IsOwnStep (Arrive rank request) = ⊥
 IsOwnStep (Serve rank) = ⊥
@@ -174,9 +173,9 @@ IsOwnStep (Import dir f bytes) = Unit {0}
 IsOwnStep (Finish dir f) = Unit {0}
 IsOwnStep (Cancel dir f) = Unit {0}
 
--- ---- of a cluster
+-- ---- the proposal of a cluster's rank
 
--- what a rank of a cluster goes by
+-- all that the proposal of a cluster's rank depends on
 abbrev pub sight : Core → Rank → Sight
 sight core rank = record {
   rank = rank;
@@ -190,12 +189,12 @@ sight core rank = record {
   cached = sizes_at core.caches rank.0;
 }
 
--- what a rank proposes; refused is a rank that isn't there, and no other
+-- the proposal of a rank; refused exactly if the rank doesn't exist
 abbrev pub Proposes : Core → Rank → Result (Option Event) Refusal → Type 0
 Proposes core rank (Ok event) = (rank.0 < length core.state.numbers) × IsProposal (sight core rank) event
 Proposes core rank (Err reason) = (reason ≡ NotAuthority) × (length core.state.numbers ≤ rank.0)
 
--- ---- what its laws say
+-- ---- laws
 
 -- there is at most one proposal
 abbrev pub ThereIsOne : Type 0
@@ -217,7 +216,7 @@ ProposedMergesPass =
     (s : Sight) (whole : Leaf) (event : Event) → IsTree (leaves_of s.covers whole.0.0) → AreSmall s whole event
     → CanMerge (leaves_of s.covers whole.0.0) whole.1 × ((i : ℕ) → i < 8 → IsIdle s (child whole i))
 
--- where none is kept as a candidate, nothing of that kind is proposed
+-- if a rank has no candidate of a kind, it proposes nothing of that kind
 pub record NoCandidateNoProposal : Type 0 where
   pub exports : (s : Sight) → IsNextOf s.exports s.rank None None → WouldNot s OfExport
   pub large : (s : Sight) → IsNext (IsLargeIn s.cached) None None → WouldNot s OfLarge
@@ -225,7 +224,7 @@ pub record NoCandidateNoProposal : Type 0 where
 
 -- ---- words of this crate's own contracts
 
--- what a rank goes by, by the tree, the grants, and how many ranks there are
+-- all that a proposal depends on, from the tree, the grants, and the number of ranks
 abbrev pub sight_of : Ranked → List Pin → ℕ → Rank → Sight
 sight_of ranked grants ranks rank = record {
   rank = rank;
@@ -239,7 +238,7 @@ sight_of ranked grants ranks rank = record {
   cached = sizes_at ranked.tree.caches rank.0;
 }
 
--- the step of a kind that it would make at the least leaf, if it would make one
+-- the step of a kind at the least leaf, if the rank would make one
 abbrev pub IsFirstStep : Sight → Kind → Option Event → Type 0
 IsFirstStep s kind None = WouldNot s kind
 IsFirstStep s kind (Some event) = IsLeast s kind event
@@ -250,7 +249,7 @@ pub record WouldStart (s : Sight) (leaf : Leaf) : Type 0 where
   pub thawed : IsThawed s leaf
   pub none : map.get s.exports leaf ≡ None
 
--- the rank that a leaf would start for, which its directory is pinned to
+-- the rank to which an export of a leaf would start, since its directory is pinned to that rank
 pub record IsAwayTo (s : Sight) (leaf : Leaf) (to : Rank) : Type 0 where
   pub own : IsMine s leaf
   pub pin : HasPin s.pins s.homes leaf.0.0 to
@@ -259,7 +258,7 @@ pub record IsAwayTo (s : Sight) (leaf : Leaf) (to : Rank) : Type 0 where
   pub thawed : IsThawed s leaf
   pub none : map.get s.exports leaf ≡ None
 
--- a subtree root, a leaf of a directory with a pin of its own, and either
+-- a leaf is a subtree root; or of a directory with a pin of its own; or one of the two
 abbrev pub IsRootAt : Sight → Leaf → Type 0
 IsRootAt s leaf = IsSome (map.get s.roots leaf)
 
@@ -269,7 +268,7 @@ IsOfPinned s leaf = IsSome (map.get s.pins leaf.0.0)
 abbrev pub IsProposable : Sight → Leaf → Type 0
 IsProposable s leaf = IsRootAt s leaf ⊎ IsOfPinned s leaf
 
--- the first leaf of these that would start, with the rank that it would start for
+-- the first of these leaves whose export would start, with the rank that it would start to
 abbrev pub IsFirstAway : Sight → (Leaf → Type 0) → Option (Leaf × Rank) → Type 0
 IsFirstAway s Place None = (leaf : Leaf) (to : Rank) → Place leaf → IsAwayTo s leaf to → ⊥
 IsFirstAway s Place (Some found) =
@@ -277,11 +276,11 @@ IsFirstAway s Place (Some found) =
     × ((leaf : Leaf) (to : Rank) → Place leaf → IsAwayTo s leaf to → (leaf ≡ found.0)
     ⊎ (leaf_cmp found.0 leaf ≡ Less))
 
--- the one at the lesser leaf
+-- of two leaves with ranks, the lesser leaf's
 abbrev pub lesser_away : Leaf × Rank → Leaf × Rank → Leaf × Rank
 lesser_away one other = cond (is_lt (leaf_cmp other.0 one.0)) other one
 
--- of one and another, if there is another
+-- of a leaf and perhaps another, with ranks, the lesser leaf's
 abbrev pub lesser_candidate : Leaf × Rank → Option (Leaf × Rank) → Leaf × Rank
 lesser_candidate one None = one
 lesser_candidate one (Some other) = lesser_away one other

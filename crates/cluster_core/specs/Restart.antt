@@ -1,4 +1,4 @@
--- What is left of a book that wasn't opened again.
+-- A restart that failed, and what it leaves.
 use Rattle.std.specs.Prelude.{ℕ, List, Err}
 use Rattle.mds_types.specs.declared.entries.Entry.{Entry}
 use Rattle.cluster_core.specs.Opening.{Opening}
@@ -12,8 +12,8 @@ use Rattle.cluster_core.specs.State.{KeptState, shown}
 use Rattle.cluster_core.specs.declared.restarting.NotRestarted.{NotRestarted}
 use Rattle.cluster_core.specs.declared.restarting.NotRestarted.TheVariants.{Unflushed, Unmounted}
 
--- nothing is lost: the flush was refused, and the book is as a refused flush leaves it; or the mount was, and the store has
--- the tree that was shown
+-- nothing is lost: the flush was refused, and the book is as a refused flush leaves it; or the mount was refused, and
+-- the store has the tree that was shown
 abbrev pub LosesNothing : {S : Type 0} → (objects : S → Objects) (faults : S → ℕ) → KeptState → NotRestarted S → Type 0
 LosesNothing objects faults old (Unflushed reason left) = Flushes old left (Err reason)
     × ((opening : Opening) (past : List Entry) → StandsBehind opening past old → StandsBehind opening past left)

@@ -1,4 +1,4 @@
--- Whole runs: what a list of events does to a book.
+-- Whole runs: how a list of events changes a book.
 use Rattle.std.specs.Prelude.{◌≡◌, List, [], ◌∷◌, ◌++◌, Result}
 use Rattle.mds_types.specs.declared.entries.Entry.{Entry}
 use Rattle.mds_types.specs.declared.refusals.Refusal.{Refusal}
@@ -27,7 +27,7 @@ Runs start (event ∷ events) (result ∷ results) end =
 abbrev pub GoesOnFrom : List Entry → List Entry → Type 0
 GoesOnFrom history past = (rest : List Entry) × (history ≡ past ++ rest)
 
--- a run; the opening stays
+-- a run, which leaves the opening the same
 pub record IsRun (start : BookState) (events : List Event) (results : List (Result Answer Refusal))
     (end : BookState) : Type 0 where
   pub ran : Runs start events results end

@@ -1,4 +1,4 @@
--- What serving the request at the front of an inbox gives.
+-- The results of serving the request at the front of an inbox.
 use Rattle.std.specs.Prelude.{◌≡◌, ◌≢◌, ℕ, true, false, cond, ◌⊎◌, set, ◌++◌, ◌∷◌, ◌<◌, [], List, length, Option, None, Some, Result, Ok, Err}
 use Rattle.std.specs.List.{slice_index_or}
 use Rattle.mds_types.specs.declared.ids.Ino.{Ino}
@@ -35,7 +35,7 @@ use Rattle.cluster_core.specs.Master.{IsMaster, MayTouchAll, MustWait, would_cha
 use Rattle.ranked_tree.specs.Subtrees.{FollowChange}
 use Rattle.cluster_core.specs.Offer.{after_taking}
 
--- the table's outcome for a request at a rank, offered the rank's next number
+-- the outcome of the operation table for a request at a rank, offered the rank's next number
 abbrev pub outcome_of : State → Rank → Request → Outcome
 outcome_of state rank request =
     step state.tree.limit (shown state) request.op (number_or (offer (supply_of state rank)))
@@ -55,54 +55,54 @@ entry_of state rank request = record {
   reply = (outcome_of state rank request).reply;
 }
 
--- the sessions with the reply of an entry at this place; what its client's mark leaves behind is forgotten
+-- the sessions, with the place of this entry's reply; replies below its client's mark are forgotten
 abbrev pub with_entry : Table → ℕ → Entry → Table
 with_entry sessions place e = trimmed (noted sessions e.client e.tid e.oldest place) e.client
 
--- each directory that stands has the leaves that it had before, and one that came the leaf `*`
+-- each directory has the leaves that it had before, and a new one the leaf `*`
 abbrev pub CarryLeaves : (before tree : Tree) → (old new : Covers) → Type 0
 CarryLeaves before tree old new =
     (d : ℕ) → is_directory tree d ≡ true
     → leaves_of new d ≡ cond (is_directory before d) (leaves_of old d) (root_fragment ∷ [])
 
--- a refusal that leaves all as it was
+-- a refusal that changes nothing
 pub record IsLeft (old new : State) (past now : List Entry) : Type 0 where
   pub same : now ≡ past
   pub left : new ≡ old
 
--- the grants left where those of a request end
+-- the grants without those of a request
 abbrev pub without_request : List Pin → Request → List Pin
 without_request pins request = left_without (is_for request.client request.tid) pins
 
--- the grants left where those on a directory that went end, if one did
+-- the grants without those on a directory that was removed, if one was
 abbrev pub without_gone : List Pin → Option Ino → List Pin
 without_gone pins None = pins
 without_gone pins (Some dir) = left_without (is_in dir) pins
 
--- the directory that went with a planned change, if one did
+-- the directory that a planned change removes, if it removes one
 abbrev pub went_with : Option Change → Option Ino
 went_with None = None
 went_with (Some change) = change.gone
 
--- the request has left the rank's inbox, with its grants, and nothing else happened
+-- the request left the rank's inbox, with its grants, and nothing else happened
 pub record IsTakenOut (old new : State) (past now : List Entry) (rank : Rank) (request : Request)
     (rest : List Request) : Type 0 where
   pub same : now ≡ past
   pub left : new ≡ record old { inboxes = with_waiting old.inboxes rank rest; pins = without_request old.pins request }
 
--- a planned change was made: what isn't clean, the jobs, the names to be removed and the counters are as it leaves
--- them. With none they stay
+-- a planned change was made: the unclean content, the jobs, the purge list and the counters are those that it leaves.
+-- Without a change they are the same
 abbrev pub MakesPlanned : Option Change → (old new : TreeState) → Type 0
 MakesPlanned None old new = new ≡ old
 MakesPlanned (Some change) old new = Makes change old new
 
--- the roots follow a planned change; with none they stay
+-- the subtree roots follow a planned change; without a change they are the same
 abbrev pub FollowPlanned : Option Change → TreeState → (before after : Roots) → Type 0
 FollowPlanned None tree before after = after ≡ before
 FollowPlanned (Some change) tree before after = FollowChange change tree before after
 
--- one change of the operation, or none, was made: that which leads to the table's tree, in the leaves that the
--- operation changes. The grants of the request end, and those on what went
+-- one change of the operation, or none, was made: it leads to the tree of the operation table, and changes exactly the
+-- leaves that the operation would change. The request's grants end, and those on a removed directory
 pub record IsMade (old new : State) (rank : Rank) (request : Request) : Type 0 where
   pub change : Option Change
   pub one_of : IsOneOf request.op change
@@ -112,15 +112,15 @@ pub record IsMade (old new : State) (rank : Rank) (request : Request) : Type 0 w
   pub roots : FollowPlanned change old.tree old.roots new.roots
   pub pins : new.pins ≡ without_gone (without_request old.pins request) (went_with change)
 
--- a new request was applied at its master, which may change all that it changes: one entry more, and the table's tree
--- and reply. A leaf that is none of those which the operation changes shows what it showed
+-- a new request was applied at its master, which may change all leaves that it would change. The history has one entry
+-- more, and tree and reply are those of the operation table. Any other leaf shows what it showed before
 pub record IsApplied (old new : State) (past now : List Entry) (rank : Rank) (request : Request) (rest : List Request)
     (answer : Answer) : Type 0 where
   pub is_new : IsNew past request.client request.tid request.oldest
   pub master : IsMaster old rank request.op rank
   pub may : MayTouchAll old rank request
   pub answered : answer ≡ Reply request.client request.tid (length past) true (outcome_of old rank request).reply
-  -- where the table takes a number, there is one
+  -- if the table takes a number, one is left
   pub numbered : offer (supply_of old rank) ≡ None → (outcome_of old rank request).takes ≡ false
   pub appended : now ≡ past ++ entry_of old rank request ∷ []
   pub tree : shown new ≡ (outcome_of old rank request).tree
@@ -136,8 +136,8 @@ pub record IsApplied (old new : State) (past now : List Entry) (rank : Rank) (re
     sessions = with_entry old.sessions (length past) (entry_of old rank request);
   }
 
--- a request that was applied before is answered again: the reply of its place, and nothing changes but that the request
--- and its grants go
+-- a request that was applied before gets the reply of its place again; it leaves with its grants, and nothing else
+-- changes
 pub record IsRepeated (old new : State) (past now : List Entry) (rank : Rank) (request : Request) (rest : List Request)
     (answer : Answer) : Type 0 where
   pub place : ℕ
@@ -145,7 +145,7 @@ pub record IsRepeated (old new : State) (past now : List Entry) (rank : Rank) (r
   pub answered : (e : Entry) → answer ≡ Reply request.client request.tid place false (slice_index_or past place e).reply
   pub out : IsTakenOut old new past now rank request rest
 
--- a new request of which another rank is the master goes to the back of the master's inbox
+-- a new request whose master is another rank is forwarded to the back of the master's inbox
 pub record IsForwarded (old new : State) (past now : List Entry) (rank : Rank) (request : Request) (rest : List Request)
     (answer : Answer) : Type 0 where
   pub is_new : IsNew past request.client request.tid request.oldest
@@ -157,7 +157,8 @@ pub record IsForwarded (old new : State) (past now : List Entry) (rank : Rank) (
   pub same : now ≡ past
   pub left : new ≡ record old { inboxes = with_last (with_waiting old.inboxes rank rest) master request }
 
--- a new request at its master that would change what is frozen, or lacks a grant, goes to the back of the same inbox
+-- a new request at its master, which would change a frozen leaf or lacks a grant, is moved to the back of the same
+-- inbox
 pub record IsDeferred (old new : State) (past now : List Entry) (rank : Rank) (request : Request) (rest : List Request)
     (answer : Answer) : Type 0 where
   pub is_new : IsNew past request.client request.tid request.oldest
@@ -167,7 +168,7 @@ pub record IsDeferred (old new : State) (past now : List Entry) (rank : Rank) (r
   pub same : now ≡ past
   pub left : new ≡ record old { inboxes = with_waiting old.inboxes rank (rest ++ request ∷ []) }
 
--- a new request of which another rank is the master, whose inbox is full
+-- a new request's master is another rank, whose inbox is full
 pub record FindsFull (old : State) (past : List Entry) (rank : Rank) (request : Request) : Type 0 where
   pub is_new : IsNew past request.client request.tid request.oldest
   pub master : Rank
@@ -180,22 +181,22 @@ pub record IsAtMaster (old : State) (past : List Entry) (rank : Rank) (request :
   pub is_new : IsNew past request.client request.tid request.oldest
   pub master : IsMaster old rank request.op rank
 
--- serving a request takes memory where its reply is copied, since it was applied before, or where it's new and at its
--- master, and nowhere else
+-- serving a request takes memory only where its reply is copied, since it was applied before, or where it is new and at
+-- its master
 abbrev pub ServingTakesMemory : State → List Entry → Rank → Request → Type 0
 ServingTakesMemory old past rank request =
     ((place : ℕ) × IsKeptAt past request.client request.tid request.oldest place) ⊎ IsAtMaster old past rank request
 
--- why a request lacks a number: it may change all that it would, and the table takes a number and the rank has none
--- left, or a counter of the tree's is at its end
+-- why a request lacks a number: it may change all leaves that it would change, and the operation table takes a number
+-- and the rank has none left, or a counter of the tree is at its end
 abbrev pub LacksAny : State → (MayRefuse : Op → Refusal → Type 0) → Rank → Request → Type 0
 LacksAny old MayRefuse rank request =
     MayTouchAll old rank request × (LacksNumber (outcome_of old rank request) (offer (supply_of old rank)) NoInodes
     ⊎ MayRefuse request.op NoInodes)
 
--- why a request is not served: it is trimmed, or lacks a number, and leaves the inbox with its grants; or it stays
--- there: its master's inbox is full, or for want of memory, or for one of the reasons that the tree had in this call
--- for this operation, `MayRefuse`
+-- why a request is not served. If it is too old or lacks a number, it leaves the inbox with its grants. Otherwise it
+-- stays there: its master's inbox is full, memory is refused, or the tree refuses its operation in this call, for a
+-- reason of `MayRefuse`
 abbrev pub RefusesRequest : (old new : State) → (past now : List Entry) → (MayRefuse : Op → Refusal → Type 0) → Rank
     → Request → List Request → Refusal → Type 0
 RefusesRequest old new past now MayRefuse rank request rest reason =
@@ -207,7 +208,7 @@ RefusesRequest old new past now MayRefuse rank request rest reason =
     ⊎ ((reason ≡ NoMemory) × ServingTakesMemory old past rank request × IsLeft old new past now)
     ⊎ ((reason ≢ NoInodes) × IsAtMaster old past rank request × MayRefuse request.op reason × IsLeft old new past now)
 
--- what becomes of the request at the front
+-- the result of serving the request at the front
 abbrev pub ServesRequest : (old new : State) → (past now : List Entry) → (MayRefuse : Op → Refusal → Type 0) → Rank
     → Request → List Request → Result Answer Refusal → Type 0
 ServesRequest old new past now MayRefuse rank request rest (Ok answer) =
@@ -225,25 +226,25 @@ ServesInbox old new past now MayRefuse rank result (request ∷ rest) =
 
 -- ---- words of this crate's own contracts
 
--- this holds of the request at the front of an inbox, and of those behind it
+-- this holds of the request at the front of an inbox and the requests behind it
 abbrev pub AtFront : (Holds : Request → List Request → Type 0) → List Request → Type 0
 AtFront Holds [] = ⊥
 AtFront Holds (request ∷ rest) = Holds request rest
 
--- a request has left the front of a rank's inbox, those behind it wait there on, and its grants have ended
+-- a request left the front of a rank's inbox, those behind it still wait, and its grants ended
 pub record HasLeft (old new : Inboxes) (before after : List Pin) (rank : Rank) (request : Request)
     (rest : List Request) : Type 0 where
   pub inboxes : new ≡ with_waiting old rank rest
   pub ended : after ≡ without_request before request
 
--- a request at the front that is refused waits on; but one for which there is no number leaves
+-- a request at the front that is refused still waits, unless there is no number for it: then it leaves
 abbrev pub LeavesRefused : (old new : Inboxes) → (before after : List Pin) → Rank → Refusal → Request → List Request
     → Type 0
 LeavesRefused old new before after rank reason request rest =
     ((reason ≡ NoInodes) × HasLeft old new before after rank request rest)
     ⊎ ((reason ≢ NoInodes) × (new ≡ old) × (after ≡ before))
 
--- a request at the front is answered again with the reply that it got at this place; for want of memory it waits on
+-- a request at the front gets the reply of this place again; if memory is refused, it still waits
 abbrev pub Repeats : (old new : Inboxes) → (before after : List Pin) → Rank → ℕ → Replied → Result Answer Refusal
     → Request → List Request → Type 0
 Repeats old new before after rank at said (Ok answer) request rest =
@@ -251,8 +252,8 @@ Repeats old new before after rank at said (Ok answer) request rest =
 Repeats old new before after rank at said (Err reason) request rest =
     (reason ≡ NoMemory) × (new ≡ old) × (after ≡ before)
 
--- a new request at the front was answered with this reply, told once more to its client: it has left, with its grants
--- and those on a directory that went; there is one entry more, at this place, which its client's session keeps
+-- a new request at the front was answered with this reply, of which its client got a copy. It left, with its grants and
+-- those on a removed directory. The history has one entry more, at this place, which its client's session keeps
 pub record IsNoted (old new : Inboxes) (before after : List Pin) (known sessions : Table) (place : ℕ)
     (past now : List Entry) (rank : Rank) (number : Option Ino) (went : Option Ino) (said told : Replied)
     (request : Request) (rest : List Request) (answer : Answer) : Type 0 where
@@ -269,7 +270,7 @@ pub record IsNoted (old new : Inboxes) (before after : List Pin) (known sessions
   } ∷ []
   pub noted : sessions ≡ trimmed (noted known request.client request.tid request.oldest place) request.client
 
--- for want of memory it waits on
+-- memory was refused, and the request still waits
 pub record IsUnnoted (old new : Inboxes) (before after : List Pin) (known sessions : Table) (past now : List Entry)
     (reason : Refusal) : Type 0 where
   pub named : reason ≡ NoMemory
@@ -286,7 +287,7 @@ Replies old new before after known sessions place past now rank said (Ok answer)
 Replies old new before after known sessions place past now rank said (Err reason) request rest =
     IsUnnoted old new before after known sessions past now reason
 
--- a request at the front goes to the back of another inbox; where that is full it waits on
+-- a request at the front is forwarded to the back of another inbox; if that is full, it still waits
 abbrev pub ForwardsTo : (old new : Inboxes) → (rank master : Rank) → Result Answer Refusal → Request → List Request
     → Type 0
 ForwardsTo old new rank master (Ok answer) request rest =
@@ -295,7 +296,8 @@ ForwardsTo old new rank master (Ok answer) request rest =
 ForwardsTo old new rank master (Err reason) request rest =
     (reason ≡ InboxFull) × (length (waiting_at old master) ≡ 1024) × (new ≡ old)
 
--- a new request at the front of its master's inbox, which may change all that it would, is applied, or refused
+-- a new request at the front of its master's inbox, which may change all leaves that it would change, is applied or
+-- refused
 abbrev pub AppliesRequest : (old new : State) → (past now : List Entry) → (MayRefuse : Op → Refusal → Type 0) → Rank
     → Result Answer Refusal → Request → List Request → Type 0
 AppliesRequest old new past now MayRefuse rank (Ok answer) request rest =

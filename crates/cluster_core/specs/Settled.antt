@@ -1,4 +1,4 @@
--- The ranks of which nothing is pinned to another: a book remembers them, so that a proposal need not look again.
+-- The ranks of which nothing is pinned to another rank. A book remembers them, so that a proposal needn't look again.
 use Rattle.std.specs.Prelude.{◌≡◌, ◌≢◌, ◌⊎◌, ◌++◌, ◌∷◌, [], ◌<◌, ℕ, Bool, true, false, List, length, slice_index_or, IsSome}
 use Rattle.std.specs.List.{Contains}
 use Rattle.std.specs.FinMap as map
@@ -16,8 +16,8 @@ use Rattle.cluster_core.specs.Pins.{HasPin}
 use Rattle.cluster_core.specs.Sound.{IsSoundKept}
 use Rattle.cluster_core.specs.State.{KeptState, State}
 
--- a leaf is a rank's, a subtree root or of a directory with a pin of its own, and its directory is pinned to another
--- rank of the book
+-- the rank is the authority of a leaf, which is a subtree root or of a directory with a pin of its own, and the
+-- directory is pinned to another rank of the book
 pub record IsAway (state : State) (rank : Rank) (leaf : Leaf) (to : Rank) : Type 0 where
   pub live : IsLive state.tree.homes state.tree.covers leaf
   pub mine : HasAuthority state.roots state.tree.homes state.tree.covers leaf rank
@@ -26,15 +26,15 @@ pub record IsAway (state : State) (rank : Rank) (leaf : Leaf) (to : Rank) : Type
   pub other : to ≢ rank
   pub there : to.0 < length state.numbers
 
--- no leaf of the rank's is
+-- the rank is the authority of no such leaf
 abbrev pub HasSettled : State → Rank → Type 0
 HasSettled state rank = (leaf : Leaf) (to : Rank) → IsAway state rank leaf to → ⊥
 
--- so it is with each of these ranks
+-- each of these ranks is the authority of no such leaf
 abbrev pub AreSettled : State → List Rank → Type 0
 AreSettled state ranks = (rank : Rank) → Contains ranks rank → HasSettled state rank
 
--- a book is sound, and nothing of these ranks is pinned away
+-- a book is sound, and no leaf of these ranks is pinned to another rank so
 pub record IsSettledBook (book : KeptState) (ranks : List Rank) : Type 0 where
   pub sound : IsSoundKept book
   pub settled : AreSettled book.core.state ranks
@@ -74,12 +74,12 @@ IsCalm (Import dir f bytes) = Unit {0}
 IsCalm (Finish dir f) = ⊥
 IsCalm (Cancel dir f) = Unit {0}
 
--- an operation was applied behind so many entries that isn't calm
+-- behind so many entries an operation was applied that moves something or pins a directory
 abbrev pub HasUnsettled : (history : List Entry) → (past : ℕ) → Type 0
 HasUnsettled history past = (past < length history) × ((e : Entry) → IsCalmOp (slice_index_or history past e).op → ⊥)
 
--- what is known afterwards: nothing, where the step wasn't calm or applied what isn't, behind so many entries;
--- otherwise all of it
+-- the ranks of which it is known afterwards: none, if the step wasn't calm, or applied an operation that isn't, behind
+-- so many entries; otherwise the same
 abbrev pub KeepsSettled : (before after : List Rank) → (may : Bool) → (history : List Entry) → (past : ℕ) → Type 0
 KeepsSettled before after may history past =
     ((after ≡ []) × ((may ≡ true) ⊎ HasUnsettled history past))

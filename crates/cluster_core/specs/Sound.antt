@@ -1,4 +1,4 @@
--- What every book keeps.
+-- The law of every book.
 use Rattle.std.specs.Prelude.{◌≡◌, ℕ, ◌<◌, ◌≤◌, ◌++◌, true, IfSome, List, Some, get_or, length}
 use Rattle.std.specs.FinMap as map
 use Rattle.mds_types.specs.declared.entries.Entry.{Entry}
@@ -21,18 +21,18 @@ use Rattle.cluster_core.specs.State.{Core, BookState, KeptState, held_roots, no_
 use Rattle.ranked_tree.specs.Held.{AreHeld}
 use Rattle.ranked_tree.specs.Subtrees.{AreRoots}
 
--- of a rank's range, only numbers below its next are used
+-- of the numbers in a rank's range, only those below its next are used
 abbrev pub IsFresh : Opening → List Entry → Supply → Type 0
 IsFresh opening history s =
     (n : ℕ) → first_number s.rank ≤ n → n < end_number s.rank → IsUsedFrom opening history n → n < s.next
 
--- the supply of a rank is one of its own range, of which only numbers below the next are used
+-- a rank's supply is of its own range, in which only the numbers below the next are used
 pub record IsSupplied (opening : Opening) (history : List Entry) (rank : ℕ) (s : Supply) : Type 0 where
   pub supply : IsSupply s
   pub own : s.rank ≡ rank
   pub fresh : IsFresh opening history s
 
--- each rank has its supply
+-- each rank has such a supply
 abbrev pub AreSupplied : Opening → List Entry → List Supply → Type 0
 AreSupplied opening history numbers =
     (rank : ℕ) → rank < length numbers → IsSupplied opening history rank (get_or numbers rank no_supply)
@@ -50,18 +50,18 @@ pub record IsSoundWith (tree : TreeState) (caches : CacheMap) : Type 0 where
   pub begun : 0 < tree.next_generation
   pub cached : AreCachedIn tree caches
 
--- what isn't clean is what the ranks' fragments have beyond their objects; each place is that of a fragment which the
--- rank has, so no leaf has places at two ranks; a rank caches only what it holds, and has a place of no other live
--- leaf; and a fragment that a rank has stands in its order of use, where no leaf stands twice, and no more than the
--- rank has places
+-- the tree's unclean content is what the ranks' fragments have beyond their objects; each place in a cache belongs to a
+-- fragment that the rank caches, so no leaf has places at two ranks; a rank caches only what it holds, and has a place
+-- of no other live leaf; each fragment that a rank caches is in its order of use, in which no leaf is twice and which
+-- has no more leaves than the rank has places
 pub record AreCached (core : Core) : Type 0 where
   pub unsaved : core.state.tree.unsaved ≡ unclean core.caches
   pub places : KeepsNone core.caches
   pub held : AreHeld core.state.tree core.caches (held_roots core.state)
   pub orders : AreCaches core.caches
 
--- the exports that stand: while one is frozen to imported its root is a subtree root of the exporter; its ranks are
--- there, as are those of all roots; and no commit of a frozen leaf is begun
+-- of each export: while it is frozen to imported, its root is a subtree root of the exporter; both its ranks exist, as
+-- do those of all roots; and no commit of a frozen leaf is under way
 pub record AreExported (core : Core) : Type 0 where
   pub placed : (root : Leaf) (export : StandingExport) → map.get core.state.exports root ≡ Some export
       → is_freezing export.state ≡ true → map.get core.state.roots root ≡ Some export.exporter
@@ -74,8 +74,8 @@ pub record AreExported (core : Core) : Type 0 where
 
 -- the history is legal from the opening tree, and the shown tree is the tree after it; the tree is sound, and each
 -- cached fragment is a live leaf, tied to its object; each leaf of the root directory is a subtree root, and only
--- leaves are; each rank caches what it holds; what the exports need has its place; no number is given twice, and the
--- sessions are those of the history
+-- leaves are; each rank caches only what it holds; each export has its root and its ranks as its steps need them; no
+-- number is given twice; and the sessions are those of the history
 pub record IsSound (opening : Opening) (history : List Entry) (core : Core) : Type 0 where
   pub legal : IsLegalFrom core.state.tree.limit opening history
   pub replayed : shown core.state ≡ after_from core.state.tree.limit opening history
@@ -91,17 +91,17 @@ pub record IsSound (opening : Opening) (history : List Entry) (core : Core) : Ty
 abbrev pub IsSoundBook : BookState → Type 0
 IsSoundBook book = IsSound book.opening book.history book.core
 
--- a cluster with the entries that aren't forgotten goes on from this opening tree and this past, which is forgotten: it
--- is sound with all entries, and what is kept of the past is set aside
+-- a cluster with the kept entries goes on from this opening tree and this forgotten past: it is sound with all entries,
+-- and what is kept of the past is set aside in the sessions
 pub record IsSoundBehind (opening : Opening) (past history : List Entry) (core : Core) : Type 0 where
   pub sound : IsSound opening (past ++ history) core
   pub aside : AreSetAside past history core.state.sessions
 
--- so does a book, which needn't keep the opening tree
+-- a book goes on from them; it needn't keep the opening tree
 pub record StandsBehind (opening : Opening) (past : List Entry) (book : KeptState) : Type 0 where
   pub opened : IfSome book.opening (λ tree. tree ≡ opening.tree)
   pub behind : IsSoundBehind opening past book.history book.core
 
--- every book does, from some opening tree and some past
+-- every book goes on from some opening tree and some past
 abbrev pub IsSoundKept : KeptState → Type 0
 IsSoundKept book = (opening : Opening) × (past : List Entry) × StandsBehind opening past book

@@ -1,4 +1,4 @@
--- What contracts see of a cluster.
+-- A cluster and a book as contracts see them.
 use Rattle.std.specs.Prelude.{ℕ, zero, suc, ◌<◌, ◌+◌, ◌*◌, ◌^◌, ◌++◌, get_or, length, List, [], ◌∷◌, Option, replicate}
 use Rattle.std.specs.FinMap as map
 use Rattle.mds_types.specs.declared.entries.Entry.{Entry}
@@ -20,10 +20,10 @@ use Rattle.sessions.specs.Table.{Table, no_table}
 use Rattle.subtree_map.specs.Authority.{Roots}
 use Rattle.cluster_core.specs.Opening.{Opening}
 
--- all that a refused step leaves as it was: the tree with its directories and their leaves, what of it isn't clean, the
--- objects of the store, the commits that were begun, the purge list and the next numbers; the subtree roots with their
--- ranks; the exports that stand; for each rank the inode numbers left and the requests that wait; the grants; and what
--- is known of each client
+-- all that a refused step leaves the same. The tree: its directories and their leaves, its unclean content, the objects
+-- of the store, the commits under way, the purge list and the next numbers. Beside it: the subtree roots with their
+-- ranks; the exports; for each rank the inode numbers that it has left and the requests that wait there; the grants;
+-- and what is known of each client
 pub record State : Type 0 where
   pub tree : TreeState
   pub roots : Roots
@@ -33,26 +33,26 @@ pub record State : Type 0 where
   pub pins : List Pin
   pub sessions : Table
 
--- a cluster: its state; and the caches of its ranks, with the order in which each used its leaves, and how many faults
--- its store had, which a refused step may change
+-- a cluster: its state; and what a refused step may change, which is the caches of its ranks, with the order in which
+-- each used its leaves, and the count of the store's faults
 pub record Core : Type 0 where
   pub state : State
   pub caches : CacheMap
   pub faults : ℕ
 
--- a whole book: a cluster, the history of all that it answered, and the tree that it opened with
+-- a whole book: a cluster, the history of all that it answered, and its opening
 pub record BookState : Type 0 where
   pub opening : Opening
   pub history : List Entry
   pub core : Core
 
--- what is kept of a book: the opening tree, if it's kept; the entries that aren't forgotten; and the cluster
+-- the part of a book that is kept: the opening tree, if it is; the entries that aren't forgotten; and the cluster
 pub record KeptState : Type 0 where
   pub opening : Option Tree
   pub history : List Entry
   pub core : Core
 
--- the whole book of which so much is kept, behind these entries
+-- the whole book of a kept part, with this opening and behind this past
 abbrev pub whole_of : Opening → List Entry → KeptState → BookState
 whole_of opening past book = record { opening = opening; history = past ++ book.history; core = book.core }
 
@@ -72,12 +72,12 @@ held_roots state = holding state.exports state.roots
 abbrev pub shown : State → Tree
 shown state = shown_tree state.tree
 
--- fewer than so many places of a rank's cache are free or can become so: each other one is that of a fragment that
--- isn't clean
+-- fewer than so many places of a rank's cache are free or can become free: all others belong to fragments that aren't
+-- clean
 abbrev pub LacksPlacesAt : ℕ → Core → Rank → Type 0
 LacksPlacesAt count core rank = core.caches.cap < map.len (unclean_of core.caches rank.0) + count
 
--- a supply that has nothing left, of a rank that isn't there
+-- the supply of a rank that doesn't exist: it has nothing left
 abbrev pub no_supply : Supply
 no_supply = record { rank = 0; next = 2 * 2 ^ 40 }
 
@@ -113,9 +113,9 @@ abbrev pub whole_supplies : ℕ → ℕ → List Supply
 whole_supplies first zero = []
 whole_supplies first (suc more) = record { rank = first; next = first_number first } ∷ whole_supplies (suc first) more
 
--- the state of a new book of so many ranks, where a directory may have so many entries: no directory but the root,
--- whose leaf is rank 0's, no name, no object, no export, nothing that waits, is granted or is kept, and for each rank
--- all its numbers
+-- the state of a new book of so many ranks, where a directory may have so many entries: the only directory is the root,
+-- with one leaf, of rank 0; there is no name, object, export, waiting request, grant or session; and each rank has all
+-- its numbers
 abbrev pub new_state : ℕ → ℕ → State
 new_state ranks limit = record {
   tree = new_tree limit;

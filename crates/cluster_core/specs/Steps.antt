@@ -1,4 +1,4 @@
--- What each event does to a cluster and its history. What becomes of the caches is said in Uses, by itself.
+-- The effect of each event on a cluster and its history. The caches are a subject of their own, in Uses.
 use Rattle.std.specs.Prelude.{◌≡◌, ◌⊎◌, ◌+◌, nat_lt, MatchBool, ◌<◌, List, length, Option, Some, None, Result, Ok, Err}
 use Rattle.std.specs.Result.{result_err}
 use Rattle.objstore.specs.Objects.{faults_told}
@@ -24,7 +24,7 @@ use Rattle.cluster_core.specs.State.{Core, LacksPlacesAt, State, held_roots}
 use Rattle.cluster_core.specs.Serve.{IsLeft, ServesInbox}
 use Rattle.ranked_tree.specs.Subtrees.{KeepsOutside}
 
--- an arriving request goes to the back of the rank's inbox; refused InboxFull exactly where 1024 requests wait there
+-- an arriving request waits at the back of the rank's inbox; refused InboxFull exactly where 1024 requests wait there
 abbrev pub ArrivesAt : (old new : State) → (past now : List Entry) → Rank → Request → Result Answer Refusal → Type 0
 ArrivesAt old new past now rank request (Ok answer) =
     (answer ≡ Nothing) × (length (waiting_at old.inboxes rank) < 1024)
@@ -32,15 +32,15 @@ ArrivesAt old new past now rank request (Ok answer) =
 ArrivesAt old new past now rank request (Err reason) =
     (reason ≡ InboxFull) × (length (waiting_at old.inboxes rank) ≡ 1024) × IsLeft old new past now
 
--- fewer than two places are free, or can become so, at the rank that holds a leaf of a directory that the operation
--- concerns
+-- some leaf of a directory that the operation concerns has a holder in whose cache fewer than two places are free or
+-- can become free
 abbrev pub LacksPlaces : Core → Op → Type 0
 LacksPlaces core op =
     (leaf : Leaf) × Concerns op leaf.0.0
     × ((rank : Rank) × IsHolder core.state leaf rank × LacksPlacesAt 2 core rank)
 
--- why the tree refuses an operation in a step: want of memory, a store whose count of faults rose in it, places that
--- lack, or a counter at its end
+-- why the tree refuses an operation in a step: memory is refused, the store's count of faults rose in the step, a rank
+-- lacks places, or a counter is at its end
 abbrev pub TreeMayRefuse : (old new : Core) → Op → Refusal → Type 0
 TreeMayRefuse old new op reason =
     (reason ≡ NoMemory) ⊎ ((reason ≡ StoreFault) × (old.faults < new.faults))
@@ -51,7 +51,7 @@ abbrev pub ServesRank : (old new : Core) → (past now : List Entry) → Rank �
 ServesRank old new past now rank result =
     ServesInbox old.state new.state past now (TreeMayRefuse old new) rank result (waiting_at old.state.inboxes rank)
 
--- an event names a rank, and a rank that isn't there is refused NotAuthority before all else
+-- an event at a rank that doesn't exist is refused NotAuthority before all else
 abbrev pub AtRank : (old new : Core) → (past now : List Entry) → Rank → Result Answer Refusal → Type 0 → Type 0
 AtRank old new past now rank result done =
     MatchBool (nat_lt rank.0 (length old.state.inboxes)) done ((result ≡ Err NotAuthority) × (new ≡ old) × (now ≡ past))
@@ -87,7 +87,7 @@ Does old new past now result (Cancel dir f) = CancelsExport old new past now (di
 Does old new past now result (Evict rank) =
     AtRank old new past now rank result (EvictsFragment old new past now rank result)
 
--- the roots whose regions a step hands on, if it does: one gets another authority, or another rank that holds it
+-- the roots whose regions a step hands to another rank, if it does: as the authority or as the holder
 pub record HandsOn : Type 0 where
   pub authority : Option Leaf
   pub holder : Option Leaf
@@ -95,7 +95,7 @@ pub record HandsOn : Type 0 where
 abbrev pub hands_none : HandsOn
 hands_none = record { authority = None; holder = None }
 
--- Finish hands the authority on, Import what is held
+-- Finish hands the authority over, Import the holding
 abbrev pub hands_of : Event → HandsOn
 hands_of (Arrive rank request) = hands_none
 hands_of (Serve rank) = hands_none
@@ -116,9 +116,10 @@ hands_of (Import dir f bytes) = record { authority = None; holder = Some (dir, f
 hands_of (Finish dir f) = record { authority = Some (dir, f); holder = None }
 hands_of (Cancel dir f) = hands_none
 
--- one step: what its event does. Each leaf that stays keeps its authority and its holder, but in a region that is
--- handed on; there are as many ranks, with as many places each, and the store's count of faults rises by one where the
--- event is refused by a fault, and not otherwise: so no fault is hidden, tried again, or told as anything else
+-- one step: the effect of its event. A leaf that exists before and after keeps its authority and its holder, unless its
+-- region is handed over. There are as many ranks as before, with as many places each. The store's count of faults rises
+-- by one if the event is refused for a fault, and not otherwise: no fault is hidden, tried again, or told as anything
+-- else
 pub record Steps (old new : Core) (past now : List Entry) (result : Result Answer Refusal)
     (event : Event) : Type 0 where
   pub does : Does old new past now result event

@@ -1,4 +1,4 @@
--- What a useless server can't do, though it answers legally.
+-- A useless server that gives legal answers can't do this.
 use Rattle.std.specs.Prelude.{◌≡◌, ℕ, List, []}
 use Rattle.mds_types.specs.declared.entries.Entry.{Entry}
 use Rattle.mds_types.specs.declared.requests.Request.{Request}
@@ -6,13 +6,14 @@ use Rattle.cluster_core.specs.Opening.{Opening}
 use Rattle.cluster_core.specs.declared.receipts.Receipt.{Receipt}
 use Rattle.cluster_core.specs.OneThread.{IsOneThread, first_places}
 
--- where nothing was sent, nothing is applied and nothing told: no operation is invented
+-- if nothing was sent, nothing is applied and no reply is given: no operation is invented
 abbrev pub OneThreadInventsNothing : Type 0
 OneThreadInventsNothing =
     (limit : ℕ) (opening : Opening) (past history : List Entry) (told : List Receipt)
     → IsOneThread limit opening past history [] told → (history ≡ past) × (told ≡ [])
 
--- where no reply is marked first, nothing was applied: none is applied in silence, and not all are called repeats
+-- if no reply is marked first, nothing was applied: nothing is applied in silence, and not all replies are called
+-- repeats
 abbrev pub OneThreadTellsAll : Type 0
 OneThreadTellsAll =
     (limit : ℕ) (opening : Opening) (past history : List Entry) (sent : List Request) (told : List Receipt)

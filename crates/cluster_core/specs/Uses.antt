@@ -1,4 +1,4 @@
--- What each event makes of the caches.
+-- How each event uses the caches.
 use Rattle.std.specs.Prelude.{◌≡◌, ◌⊎◌, ℕ, true, false, nat_lt, MatchBool, List, [], ◌∷◌, length, Option, Some, None, Result, Ok, Err, OnOk, OnErr, IfErr}
 use Rattle.std.specs.FinMap as map
 use Rattle.mds_types.specs.declared.ids.Rank.{Rank}
@@ -29,23 +29,23 @@ use Rattle.ranked_tree.specs.Held.{AsksFor, CameAt, IsFamilyOf, IsGone, IsMerged
 use Rattle.ranked_tree.specs.Importing.{HandsRegion, LeavesCaches}
 use Rattle.ranked_tree.specs.Sending.{IsInRegionOf}
 
--- a leaf that an operation asks for at a rank: one of a directory that it concerns, at the rank that holds it, or the
--- first leaf of a directory that comes
+-- the leaves that an operation asks for at a rank: leaves of directories that it concerns, at the rank that holds them,
+-- and the first leaf of a directory that it makes
 abbrev pub Asks : TreeState → Roots → Op → ℕ → Leaf → Type 0
 Asks tree roots op = AsksFor tree roots (Concerns op)
 
--- of the caches such leaves were read at most, each of which came to the front of its rank's order
+-- the caches changed at most by reading such leaves, each of which moved to the front of its rank's order of use
 abbrev pub ReadsOp : TreeState → Roots → Op → (before after : CacheMap) → Type 0
 ReadsOp tree roots op before after = Reads (Asks tree roots op) NoneEnds tree.objects before after
 
--- they were read, and then used and changed at most; and leaves of directories that aren't there any more ended
+-- the caches changed at most by reading such leaves, then using and changing them, and by dropping the leaves of
+-- directories that no longer exist
 abbrev pub ChangesOp : (tree new : TreeState) → Roots → Op → (before after : CacheMap) → Type 0
 ChangesOp tree new roots op before after =
     (mid : CacheMap) × ReadsOp tree roots op before mid × Came (Asks tree roots op) (IsGone (shown_tree new)) mid after
 
--- what serving a request makes of the caches: one that is applied changes what its operation asks for; one that lacks a
--- grant reads it, or one that is refused; nothing is read for one that is answered again or goes to another rank, or is
--- too old
+-- the caches after serving a request. If it is applied, the leaves that its operation asks for may be read and changed.
+-- If it lacks a grant or is refused, they may be read. If it is answered again, forwarded or too old, nothing is read
 abbrev pub UsesRequest : (tree new : TreeState) → Roots → Op → (before after : CacheMap) → Result Answer Refusal
     → Type 0
 UsesRequest tree new roots op before after (Ok (Reply client tid place true reply)) =
@@ -59,20 +59,20 @@ UsesRequest tree new roots op before after (Ok (Sent bytes)) = after ≡ before
 UsesRequest tree new roots op before after (Err reason) =
     ReadsOp tree roots op before after × ((reason ≡ Trimmed) ⊎ (reason ≡ InboxFull) → after ≡ before)
 
--- what applying a request that is new and at its master makes of them
+-- the caches after applying a request that is new and at its master
 abbrev pub UsesApplied : (tree new : TreeState) → Roots → Op → (before after : CacheMap) → Result Answer Refusal
     → Type 0
 UsesApplied tree new roots op before after (Ok answer) = ChangesOp tree new roots op before after
 UsesApplied tree new roots op before after (Err reason) = ReadsOp tree roots op before after × IsOfFragments reason
 
--- that at the front; where none waits, nothing
+-- the caches after serving the request at the front; if none waits, they are the same
 abbrev pub UsesFront : (tree new : TreeState) → Roots → (before after : CacheMap) → Result Answer Refusal → List Request
     → Type 0
 UsesFront tree new roots before after result [] = after ≡ before
 UsesFront tree new roots before after result (request ∷ rest) =
     UsesRequest tree new roots request.op before after result
 
--- a grant reads what the operation of the first waiting copy asks for
+-- a grant may read the leaves that the operation of the first waiting copy asks for
 abbrev pub UsesWaiting : TreeState → Roots → (before after : CacheMap) → Option Request → Type 0
 UsesWaiting tree roots before after None = after ≡ before
 UsesWaiting tree roots before after (Some request) = ReadsOp tree roots request.op before after
@@ -81,19 +81,19 @@ UsesWaiting tree roots before after (Some request) = ReadsOp tree roots request.
 abbrev pub AsksNone : (old new : Core) → Type 0
 AsksNone old new = new.caches ≡ old.caches
 
--- a leaf was used at most, at the rank that holds it
+-- at most this leaf was used, at the rank that holds it
 abbrev pub UsesLeaf : (old new : Core) → Leaf → Type 0
 UsesLeaf old new leaf = UsesAt (IsHolder old.state leaf) leaf old.caches new.caches
 
--- a rank that isn't there asks for none
+-- an event at a rank that doesn't exist asks for no leaf
 abbrev pub UsesThere : (old new : Core) → Rank → (Uses : Type 0) → Type 0
 UsesThere old new rank Uses = MatchBool (nat_lt rank.0 (length old.state.inboxes)) Uses (AsksNone old new)
 
--- what an event makes of the caches, as `Does` says what it does to the state:
--- a split used and ended at most the leaf and its children, at its authority; a merge the leaves properly inside and the
--- one that they would be, at the authority of all. An eviction took away the least recently used of the clean fragments
--- that its rank caches. An import handed the region to its importer; a refused one left the caches, but for clean
--- fragments of the importer. All other events asked for none
+-- how an event uses the caches, beside its effect on the state (`Does`). A Serve or a Grant uses what its request asks
+-- for; the begin and the end of a commit use at most its leaf. A split uses and ends at most the leaf and its children,
+-- at its authority; a merge at most the leaves properly inside and the one that they become, at the authority of all.
+-- An eviction removes the least recently used of the clean fragments that its rank caches. An import hands the region
+-- to its importer; a refused one removes at most clean fragments of the importer. All other events ask for no leaf
 abbrev pub UsesStep : (old new : Core) → Result Answer Refusal → Event → Type 0
 UsesStep old new result (Serve rank) =
     UsesThere old new rank (UsesFront old.state.tree new.state.tree (held_roots old.state) old.caches new.caches result

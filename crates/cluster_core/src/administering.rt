@@ -1,4 +1,4 @@
-//! The administrator's steps: what each does is unseen, but for the answer.
+//! The administrator's steps. Clients see nothing of what they change.
 ghost use Rattle.std.specs.Prelude.{◌≡◌, ◌+◌, List, length};
 ghost use Rattle.objstore.specs.Objects.{faults_told};
 ghost use Rattle.std.specs.Result.{result_err};
@@ -28,7 +28,7 @@ use ranked_tree::RankedTree;
 use std::alloc::Global;
 
 impl<S: Store + Drop> Cluster<S> {
-    // A leaf of a directory is split.
+    // Splits a leaf of a directory.
     #[inline(never)]
     pub(crate) fn split(
         &mut self,
@@ -59,7 +59,7 @@ impl<S: Store + Drop> Cluster<S> {
         split_at(alloc, &mut self.tree, &self.waiting.pins, &asked, bits)
     }
 
-    // Leaves of a directory are merged.
+    // Merges leaves of a directory.
     #[inline(never)]
     pub(crate) fn merge(
         &mut self,
@@ -84,7 +84,7 @@ impl<S: Store + Drop> Cluster<S> {
         merge_at(alloc, &mut self.tree, &self.waiting.pins, rank, ino, frag)
     }
 
-    // A commit of a leaf begins; of a clean one there is nothing to commit.
+    // Begins a commit of a leaf. If the leaf is clean, there is nothing to commit.
     #[inline(never)]
     pub(crate) fn begin_commit(
         &mut self,
@@ -105,7 +105,7 @@ impl<S: Store + Drop> Cluster<S> {
         begin_at(&mut self.tree, rank, ino, frag)
     }
 
-    // A commit ends: what was encoded is written.
+    // Ends a commit, and writes what was encoded.
     #[inline(never)]
     pub(crate) fn end_commit(&mut self, alloc: Global, encoded: &Encoded) -> Result<Answer, Refusal>
         ensures ended { (past : List Applied) → EndsCommit self.old self.new past past encoded.now.job result }
@@ -120,7 +120,7 @@ impl<S: Store + Drop> Cluster<S> {
         Ok(Answer::Nothing)
     }
 
-    // A commit is given up.
+    // Gives a commit up.
     #[inline(never)]
     pub(crate) fn drop_commit(&mut self, job: u64) -> Result<Answer, Refusal>
         ensures dropped { (past : List Applied) → DropsCommit self.old self.new past past job result }
@@ -133,7 +133,7 @@ impl<S: Store + Drop> Cluster<S> {
         Ok(Answer::Nothing)
     }
 
-    // The object of a directory's tree is written, or removed.
+    // Writes or removes the object of a directory's fragment tree.
     #[inline(never)]
     pub(crate) fn commit_tree(&mut self, alloc: Global, ino: Ino) -> Result<Answer, Refusal>
         ensures saved { (past : List Applied) → CommitsTree self.old self.new past past ino result }
@@ -146,7 +146,7 @@ impl<S: Store + Drop> Cluster<S> {
         Ok(Answer::Nothing)
     }
 
-    // The first object of the purge list is removed.
+    // Removes the first object of the purge list from the store.
     #[inline(never)]
     pub(crate) fn purge(&mut self) -> Result<Answer, Refusal>
         ensures purged { (past : List Applied) → PurgesObject self.old self.new past past result }
@@ -159,7 +159,7 @@ impl<S: Store + Drop> Cluster<S> {
         Ok(Answer::Nothing)
     }
 
-    // The least recently used clean fragment of a rank's cache goes.
+    // Evicts the least recently used clean fragment of a rank's cache.
     #[inline(never)]
     pub(crate) fn evict(&mut self, rank: Rank) -> Result<Answer, Refusal>
         requires { length self.old.caches.used ≡ length self.old.state.inboxes }
@@ -178,7 +178,7 @@ impl<S: Store + Drop> Cluster<S> {
     }
 }
 
-// A leaf of a rank's is split, unless it is frozen or a grant stands on it.
+// Splits a leaf of a rank, unless it is frozen or granted.
 fn split_at<S: Store + Drop>(
     alloc: Global,
     tree: &mut RankedTree<S>,
@@ -223,7 +223,7 @@ fn split_at<S: Store + Drop>(
     Ok(Answer::Nothing)
 }
 
-// Leaves inside a fragment, all of a rank's, are merged, unless one of them is frozen or a grant stands on one.
+// Merges leaves inside a fragment, all of them a rank's, unless one of them is frozen or granted.
 fn merge_at<S: Store + Drop>(
     alloc: Global,
     tree: &mut RankedTree<S>,
@@ -263,7 +263,7 @@ fn merge_at<S: Store + Drop>(
     Ok(Answer::Nothing)
 }
 
-// A commit of a leaf of a rank's begins, unless it is frozen.
+// Begins a commit of a leaf of a rank, unless it is frozen.
 fn begin_at<S: Store + Drop>(
     tree: &mut RankedTree<S>,
     rank: Rank,
@@ -302,7 +302,7 @@ fn begin_at<S: Store + Drop>(
     Ok(told_job(job))
 }
 
-// What a commit that began is told as: its job, or nothing of a clean fragment.
+// The answer of a commit that began: its job, or nothing for a clean fragment.
 fn told_job(job: Option<Job>) -> Answer
     ensures { result ≡ told_job job }
 {

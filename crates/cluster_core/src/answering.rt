@@ -1,5 +1,5 @@
-//! Answering a request that changes nothing. It has a way of its own, since most requests are look-ups: no change is
-//! carried along, and no number.
+//! Answering a request that changes nothing. Most requests are look-ups, so this is a path of its own, which carries no
+//! change and no inode number along.
 ghost use Rattle.std.specs.Prelude.{◌≡◌, ◌<◌, ◌+◌, IfOk, OnOk, length, vec_len, vec_capacity};
 ghost use Rattle.std.specs.Result.{result_err};
 ghost use Rattle.objstore.specs.Objects.{faults_told};
@@ -14,8 +14,8 @@ use mds_types::{Entry, Refusal, Reply, Request};
 use sessions::SessionAt;
 use std::alloc::{AllocError, Global};
 
-/// Answers the new request at the front of its master's inbox with the reply that was found, and notes it in the
-/// history and in its client's session. Refused `NoMemory`: the request waits on.
+/// Answers the new request at the front of its master's inbox with the reply that was found, and adds its entry to the
+/// history and to its client's session. After the refusal `NoMemory` the request still waits.
 #[inline(always)]
 pub(crate) fn answer(
     alloc: Global,
@@ -70,7 +70,7 @@ pub(crate) fn answer(
     })
 }
 
-// A copy of a reply for its client, and room for the entry that keeps the reply.
+// Copies a reply for its client, and reserves room for the entry that keeps the reply.
 #[inline(always)]
 fn told_of(
     alloc: Global,
@@ -92,7 +92,7 @@ fn told_of(
     reply.try_clone()
 }
 
-/// Makes room for an entry in the history, and for a reply in a client's session.
+/// Reserves room for an entry in the history, and for a reply in a client's session.
 pub(crate) fn make_room(
     alloc: Global,
     given: &mut Given,

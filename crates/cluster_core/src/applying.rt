@@ -1,4 +1,4 @@
-//! Applying a request: everything that may be refused comes first, its change the last of it, and then what stands
+//! Applying a request. All that may be refused is done first; then the tree is changed; then all that the cluster keeps
 //! beside the tree.
 ghost use Rattle.std.specs.Prelude.{◌≡◌, ◌<◌, ◌+◌, ◌++◌, Err, List, length, set, vec_len, vec_capacity, IfErr, IfOk, IsSome, OnOk};
 ghost use Rattle.std.specs.Result.{result_err};
@@ -31,23 +31,24 @@ use objstore::Store;
 use ranked_tree::RankedTree;
 use std::alloc::Global;
 
-/// What stands beside the tree once the change of a request is made.
+/// What the cluster keeps beside the tree after the change of a request.
 #[derive(Debug, Drop)]
 pub struct Prepared {
     /// The reply, for the history.
     reply: Reply,
-    /// The reply once more, for the client.
+    /// A copy of the reply, for the client.
     answer: Reply,
     /// The number that a new inode took.
     number: Option<Ino>,
     /// The rank's numbers afterwards.
     numbers: Numbers,
-    /// The directory that went.
+    /// The directory that the request removes.
     went: Option<Ino>,
 }
 
-/// Applies the new request at the front of its master's inbox, which may change all that it would: makes its change,
-/// with the subtree roots, once all is there that its entry in the history and its reply take, and notes it.
+/// Applies the new request at the front of its master's inbox, which may change all leaves that it would change. Once
+/// there is memory for its entry in the history and for its reply, changes the tree and the subtree roots, and adds the
+/// entry.
 #[inline(never)]
 pub(crate) fn apply<S: Store + Drop>(
     alloc: Global,
@@ -100,7 +101,8 @@ pub(crate) fn apply<S: Store + Drop>(
     }
 }
 
-// The request at the front of a rank's inbox is refused: one for which there is no number leaves, any other waits on.
+// Refuses the request at the front of a rank's inbox. If there is no number for it, it leaves; otherwise it still
+// waits.
 #[inline(never)]
 fn refuse(waiting: &mut Waiting, rank: Rank, refusal: Refusal) -> Result<Answer, Refusal>
     requires waits { 0 < length (waiting_at waiting.old.inboxes rank) }
@@ -118,8 +120,8 @@ fn refuse(waiting: &mut Waiting, rank: Rank, refusal: Refusal) -> Result<Answer,
     }
 }
 
-// Makes what stands beside the tree once this change of a request is made, and room for its entry in the history and
-// for its reply in the sessions.
+// Prepares what the cluster keeps beside the tree after this change of a request, and reserves room for its entry in
+// the history and for its reply in the sessions.
 fn prepare(
     alloc: Global,
     given: &mut Given,
@@ -144,7 +146,7 @@ fn prepare(
         Ok(number) => number,
         Err(refusal) => return Err(refusal),
     };
-    // in place, since each call that replies go through copies them
+    // written out here, since each call that a reply is moved through copies it
     let Ok(reply) = change.reply() else {
         return Err(Refusal::NoMemory);
     };
@@ -162,7 +164,7 @@ fn prepare(
     })
 }
 
-// Notes the request at the front of its master's inbox, whose change was made. It can't fail.
+// Notes that the request at the front of its master's inbox was applied. It can't fail.
 #[inline(always)]
 fn commit(
     waiting: &mut Waiting,
@@ -224,7 +226,7 @@ fn commit(
     }
 }
 
-// Grants on the fragments of a directory that goes end, if one goes.
+// Ends the grants on the fragments of the directory that was removed, if one was.
 fn forget_gone(pins: &mut Pins, went: Option<Ino>)
     ensures { pins.new ≡ without_gone pins.old went }
 {
@@ -233,7 +235,7 @@ fn forget_gone(pins: &mut Pins, went: Option<Ino>)
     }
 }
 
-// The supply after an operation that took this number of it, if it took one.
+// The rank's numbers after an operation that took this number, if it took one.
 fn supply_after(numbers: Numbers, number: Option<Ino>) -> Numbers
     requires { IsSome number → IsSome (offer numbers) }
     ensures { result ≡ after_taking numbers number }

@@ -1,4 +1,4 @@
-//! Whether a rank that serves a request may not change what it would.
+//! Whether a request must wait, since its rank may not change a leaf that it would change.
 ghost use Rattle.std.specs.Prelude.{◌≡◌, ◌↔◌, ◌⊎◌, ℕ, List, true, IsTrue, MatchBool, IfSome};
 ghost use Rattle.std.specs.List.{list_any};
 ghost use Rattle.mds_types.specs.Leaf.{leaf_of};
@@ -19,9 +19,8 @@ use objstore::Store;
 use ranked_tree::RankedTree;
 use subtree_map::end_of;
 
-/// Whether a request has to wait at a rank: its operation would change a leaf that is frozen, or one of another
-/// authority, which isn't granted for this request. `checked` is what the checks of the operation found. Takes no
-/// memory.
+/// Whether a request has to wait at a rank: its operation would change a leaf that is frozen, or a leaf of another
+/// authority that isn't granted to this request. `checked` is the result of the operation's checks. Takes no memory.
 pub fn must_wait<S: Store + Drop>(
     tree: &RankedTree<S>,
     pins: &Pins,
@@ -42,7 +41,8 @@ pub fn must_wait<S: Store + Drop>(
     }
 }
 
-// Whether one of the leaves of a change may not be changed: those of its names, and all of a directory that goes.
+// Whether one of the leaves of a change may not be changed: those of its names, and all leaves of a directory that it
+// removes.
 fn lacks_one<S: Store + Drop>(
     tree: &RankedTree<S>,
     pins: &Pins,
@@ -71,8 +71,8 @@ fn lacks_one<S: Store + Drop>(
     lacks_gone(tree, pins, rank, request, change.gone)
 }
 
-// Whether the directory that goes surely has no leaf but those that its rank may change, with no look at them: they inherit
-// that one's authority where its name lies. It may be false of others, which `lacks_gone` looks at.
+// Whether the rank surely may change all leaves of the removed directory. They aren't looked at: they inherit the
+// authority of the leaf that has the directory's name. If the result is false, `lacks_gone` looks at each leaf.
 fn goes_along<S: Store + Drop>(tree: &RankedTree<S>, rank: Rank, change: &Change) -> bool
     requires held { LieHeld (HoldsAt (tree_state tree.now.tree) (held_roots tree.now)) change.now }
     requires carries { Carries (shown_tree (tree_state tree.now.tree)) tree.now.tree.covers change.now }
@@ -93,7 +93,7 @@ fn goes_along<S: Store + Drop>(tree: &RankedTree<S>, rank: Rank, change: &Change
     spot.at.rank == rank && tree.inherits(dir)
 }
 
-// Whether the leaf of the name that loses its inode, if one does, may be changed.
+// Whether the leaf of the name that loses its inode may be changed, if there is such a name.
 fn may_take<S: Store + Drop>(
     tree: &RankedTree<S>,
     pins: &Pins,
@@ -114,7 +114,7 @@ fn may_take<S: Store + Drop>(
     }
 }
 
-// Whether that of the name that gets an inode may be.
+// Whether the leaf of the name that gets an inode may be changed, if there is such a name.
 fn may_put<S: Store + Drop>(
     tree: &RankedTree<S>,
     pins: &Pins,
@@ -135,7 +135,7 @@ fn may_put<S: Store + Drop>(
     }
 }
 
-// Whether a leaf of the directory that goes, if one does, may not be changed.
+// Whether a leaf of the removed directory may not be changed, if one is removed.
 #[inline(never)]
 fn lacks_gone<S: Store + Drop>(
     tree: &RankedTree<S>,
@@ -157,7 +157,7 @@ fn lacks_gone<S: Store + Drop>(
     }
 }
 
-// Whether a leaf of a directory may not be changed. Each is located once, from the hash on where the one before it
+// Whether a leaf of a directory may not be changed. Each leaf is located once, by the hash at which the previous one
 // ends.
 fn lacks_leaf<S: Store + Drop>(
     tree: &RankedTree<S>,
@@ -187,8 +187,8 @@ fn lacks_leaf<S: Store + Drop>(
     false
 }
 
-// Whether a rank may change a leaf for a request, which lies here: it isn't frozen, so the rank that holds it is its
-// authority, and that is the rank, or it is granted.
+// Whether a rank may change a leaf for a request. `at` is the leaf with its holder. If the leaf isn't frozen, its
+// holder is its authority. That must be this rank, or the leaf must be granted to the request.
 fn may_touch<S: Store + Drop>(
     tree: &RankedTree<S>,
     pins: &Pins,

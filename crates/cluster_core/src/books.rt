@@ -24,17 +24,16 @@ use std::alloc::Global;
 use std::marker::Model;
 
 /// A cluster, the history of what it answered, and the tree that it opened with. A beginning of the history may be
-/// forgotten, and then the opening tree is too. Of every value of this type it holds that the whole history, what is
-/// forgotten and what isn't, is legal from the opening tree, and that the tree which the cluster shows is the tree after
-/// it: the objects of its store, overlaid with what isn't clean.
+/// forgotten; then the opening tree is forgotten too. For every book the whole history, forgotten or not, is legal from
+/// the opening tree. The shown tree is the tree after it: the objects of the store, overlaid with all that isn't clean.
 #[derive(Drop)]
 pub struct Book<S: Store + Drop> {
     pub(crate) cluster: Cluster<S>,
     /// The entries that aren't forgotten.
     pub(crate) history: Vec<Entry>,
-    /// The tree that it opened with, as long as nothing is forgotten.
+    /// The tree that the book opened with, if it is still kept.
     pub(crate) opening: Option<PlainTree>,
-    /// The ranks of which it is known that nothing of theirs is pinned to another.
+    /// The ranks of which it is known that none of their subtrees is pinned to another rank.
     pub(crate) settled: Settled,
 }
 
@@ -55,16 +54,15 @@ impl<S: Store + Drop> Model for Book<S> {
 }
 
 impl<S: Store + Drop> Book<S> {
-    /// Tells what every book keeps: from some opening tree its whole history is legal, and what it shows is the tree
-    /// after that.
+    /// Tells the law of every book: the whole history is legal from some opening tree, and the shown tree is the tree
+    /// after it.
     pub fn is_sound(&self)
         ensures { IsSoundKept self.now }
     {
         let _ = &self.history;
     }
 
-    /// The history so far, but for its beginning where that is forgotten: the first entry here is that of the place
-    /// `places() - history().len()`.
+    /// The history so far, without its forgotten beginning. The first entry has the place `places() - history().len()`.
     pub fn history(&self) -> &[Entry]
         ensures history { result.now ≡ self.now.history }
         ensures sound { IsSoundKept self.now }
@@ -72,15 +70,15 @@ impl<S: Store + Drop> Book<S> {
         self.history.as_slice()
     }
 
-    /// The tree that the book opened with; None once that is no longer kept, as after `forget` and `drop_opening`.
+    /// The tree that the book opened with. None once it is no longer kept, as after `forget` and `drop_opening`.
     pub fn opening(&self) -> Option<&PlainTree>
         ensures { option_copied result ≡ self.now.opening }
     {
         self.opening.as_ref()
     }
 
-    /// The cluster, to read. A caller also learns from it that each fragment which a rank caches is one that it holds,
-    /// and that one which isn't clean lies in the cache of the rank that holds it.
+    /// The cluster. The contract also tells that a rank caches only fragments that it holds, and that a fragment which
+    /// isn't clean is in the cache of its holder.
     pub fn cluster(&self) -> &Cluster<S>
         ensures cluster { result.now ≡ self.now.core }
         ensures lie { LieAtHolder self.now.core }
@@ -88,14 +86,14 @@ impl<S: Store + Drop> Book<S> {
         &self.cluster
     }
 
-    /// One event, one atomic step: what it answers, or why it is refused. The opening tree stays. The history grows by
-    /// one entry where a request is applied, and each reply that is handed out stands in the whole history, at a place
-    /// that is counted from the first entry ever. What is said of the whole history holds whichever opening tree and
-    /// past the book goes on from.
+    /// Makes one atomic step, for one event, and returns its answer or its refusal. The opening tree stays. The history
+    /// grows by one entry if a request is applied. The whole history holds each reply that is handed out, at a place
+    /// that is counted from the first entry ever. All that is said of the whole history holds for each opening tree and
+    /// past that the book goes on from.
     ///
-    /// What this is to whoever sends requests is the first part of the contract: one plain tree, served by one thread.
-    /// Then come what the fragments, caches and objects of all ranks mean together, which is that tree, what each event
-    /// does to the state, and what it makes of the caches.
+    /// The first part of the contract is for whoever sends requests: one plain tree, served by one thread. The second
+    /// part tells that the fragments, caches and objects of all ranks together mean that tree. The third tells what
+    /// each event does to the state, the last how it uses the caches.
     #[inline(always)]
     pub fn step(&mut self, alloc: Global, event: Event) -> Result<Answer, Refusal>
         ensures one_thread { (opening : Opening) (past : List Applied) → StandsBehind opening past self.old
@@ -122,7 +120,7 @@ impl<S: Store + Drop> Book<S> {
         answer
     }
 
-    /// Each rank's hint on each subtree root of another names this rank, be it right or wrong: no answer depends on
+    /// Makes each rank's hint on each subtree root of another rank name this rank, right or wrong. No answer depends on
     /// hints. Takes no memory.
     pub fn set_hints(&mut self, rank: Rank)
         ensures { self.new ≡ self.old }
@@ -132,7 +130,7 @@ impl<S: Store + Drop> Book<S> {
 }
 
 impl<S: Keep + Drop> Book<S> {
-    /// Brings what the store has where it outlives the process. Whatever it answers, all is as it was.
+    /// Keeps the content of the store so that it outlives the process. Whatever it returns, the book is unchanged.
     pub fn keep(&mut self) -> Result<(), Unkept>
         ensures same { self.new ≡ self.old }
         ensures failed { IfErr result (λ _. S.may_fail) }
@@ -140,7 +138,7 @@ impl<S: Keep + Drop> Book<S> {
         self.cluster.keep()
     }
 
-    /// Leaves what was kept whole in one place, as a run ends. Whatever it answers, all is as it was.
+    /// Gathers all that was kept in one place, at the end of a run. Whatever it returns, the book is unchanged.
     pub fn settle(&mut self) -> Result<(), Unkept>
         ensures same { self.new ≡ self.old }
         ensures failed { IfErr result (λ _. S.may_fail) }
@@ -149,13 +147,13 @@ impl<S: Keep + Drop> Book<S> {
     }
 }
 
-/// A book of so many ranks over a store that has no object: an empty tree, an empty history, and nothing that waits.
-/// The root directory's leaf is rank 0's. `cache` is the number of fragments that a rank may cache; the root's `*` is
-/// cached at rank 0, and no object counts for it. `limit` is the number of entries that a directory may have. Takes
-/// memory.
+/// A book of so many ranks over a store that has no object: the tree and the history are empty, and nothing waits. The
+/// authority of the root directory's leaf is rank 0. `cache` is the number of fragments that a rank may cache; the
+/// root's `*` is cached at rank 0, though it has no object. `limit` is the number of entries that a directory may have.
+/// Takes memory.
 ///
-/// Refused `NotClean` exactly where the store has objects, unless it refuses to tell, and `NoMemory`; the store is
-/// handed back then, with its objects as they were.
+/// Refused `NotClean` exactly where the store has objects, unless the store fails to list them. Otherwise refused if
+/// the store or memory refuses. Then the store is returned, with its objects as they were.
 pub fn format<S: Store + Drop>(
     alloc: Global,
     store: S,

@@ -35,11 +35,11 @@ use subtree_map::Subtrees;
 /// A cluster of metadata server ranks that serve one tree over a store.
 #[derive(Drop)]
 pub struct Cluster<S: Store + Drop> {
-    /// The tree, and whose each leaf is.
+    /// The tree, and the authority of each leaf.
     pub(crate) tree: RankedTree<S>,
-    /// What waits at each rank, and the grants that stand.
+    /// The requests that wait at each rank, and the grants for them.
     pub(crate) waiting: Waiting,
-    /// The inode numbers of each rank, and what each client got.
+    /// The inode numbers that each rank has left, and the sessions of clients.
     pub(crate) given: Given,
 }
 
@@ -58,11 +58,11 @@ impl<S: Store + Drop> Model for Cluster<S> {
 }
 
 impl<S: Store + Drop> Cluster<S> {
-    /// A cluster of so many ranks that serves the empty tree over a store that has no object, with a cache of so many
-    /// places each, where a directory may have `limit` entries. The root directory's leaf is rank 0's.
+    /// A cluster of so many ranks that serves the empty tree over a store that has no object. Each rank's cache has so
+    /// many places, and a directory may have `limit` entries. The authority of the root directory's leaf is rank 0.
     ///
-    /// Refused `NotClean` exactly where the store has objects, unless it refuses to tell, and `NoMemory`; the store is
-    /// handed back then, with its objects as they were.
+    /// Refused `NotClean` exactly where the store has objects, unless the store fails to list them. Otherwise refused
+    /// if the store or memory refuses. Then the store is returned, with its objects as they were.
     pub(crate) fn format(
         alloc: Global,
         store: S,
@@ -102,8 +102,8 @@ impl<S: Store + Drop> Cluster<S> {
         }
     }
 
-    /// One event, one atomic step. The history has the entries that aren't forgotten. Cluster and history are as a book
-    /// keeps them from some opening tree and some past; from whichever they were, they are so afterwards.
+    /// Makes one atomic step, for one event. The history has the entries that aren't forgotten. From each opening tree
+    /// and past that cluster and history went on from, they go on afterwards.
     #[inline(always)]
     pub fn step(
         &mut self,
@@ -123,8 +123,8 @@ impl<S: Store + Drop> Cluster<S> {
         answer
     }
 
-    // Chooses what an event does. It is put into its callers, who know which event it is, so an event is moved nowhere;
-    // what is rare stands in functions of its own, each with its own frame.
+    // Calls the function of an event. It is inlined into callers that know which event it is, so that no event is
+    // moved. Rare events have functions of their own, each with its own frame.
     #[inline(always)]
     fn choose(
         &mut self,
@@ -178,7 +178,7 @@ impl<S: Store + Drop> Cluster<S> {
         }
     }
 
-    // A request comes in, and waits at the back of the rank's inbox.
+    // A request arrives, and waits at the back of the rank's inbox.
     #[inline(always)]
     fn arrive(&mut self, rank: Rank, request: Request) -> Result<Answer, Refusal>
         ensures arrived { (past : List Applied) → AtRank self.old self.new past past rank result
@@ -200,7 +200,7 @@ impl<S: Store + Drop> Cluster<S> {
         Ok(Answer::Nothing)
     }
 
-    // The rank serves the request at the front of its inbox.
+    // A rank serves the request at the front of its inbox.
     fn serve(
         &mut self,
         alloc: Global,
@@ -231,7 +231,7 @@ impl<S: Store + Drop> Cluster<S> {
         )
     }
 
-    // The rank grants a waiting request what it would change of the rank's.
+    // A rank grants a waiting request those of the rank's leaves that it would change.
     #[inline(never)]
     fn grant(&mut self, alloc: Global, rank: Rank, client: u64, tid: u64) -> Result<Answer, Refusal>
         ensures granted { (past : List Applied) → AtRank self.old self.new past past rank result
@@ -251,7 +251,7 @@ impl<S: Store + Drop> Cluster<S> {
         grant_first(alloc, &mut self.tree, &mut self.waiting, rank, client, tid)
     }
 
-    /// The store, to read.
+    /// The store.
     pub fn store(&self) -> &S
         ensures objects { S.objects result.now ≡ self.now.state.tree.objects }
         ensures faults { S.faults result.now ≡ self.now.faults }
@@ -259,8 +259,7 @@ impl<S: Store + Drop> Cluster<S> {
         self.tree.store()
     }
 
-    /// The leaves of a directory by value. Refused `NoSuchFrag` where there is no such directory, and for want of
-    /// memory.
+    /// The leaves of a directory in order. Refused `NoSuchFrag` if there is no such directory, or if memory is refused.
     pub fn leaves(&self, alloc: Global, ino: Ino) -> Result<Vec<Frag>, Refusal>
         ensures listed { IfOk result (λ leaves. ListsLeaves self.now.state ino (Ok leaves.items)) }
         ensures err { IfErr result (λ reason. ListsLeaves self.now.state ino (Err reason)) }
@@ -282,23 +281,23 @@ impl<S: Store + Drop> Cluster<S> {
         }
     }
 
-    /// The bytes of an export that stands sent, spelled from its region as it is: those that its Import takes, for
-    /// whoever has them no more. Refused `WrongExportState` exactly where no export of this root stands sent;
-    /// `TooManyFrags` where a Send of that region would be, so that none was sent; and for want of memory.
+    /// The bytes of a sent export, spelled again from its region as it is now. An Import takes them if the bytes of the
+    /// Send are lost. Refused `WrongExportState` exactly where no export of this root is sent, `TooManyFrags` if a Send
+    /// of the region would be refused so, which means that none was made, and if memory is refused.
     pub fn sent_bytes(&self, alloc: Global, ino: Ino, frag: Frag) -> Result<Bytes, Refusal>
         ensures { TellsSentBytes self.now.state (ino, frag) result }
     {
         self.tree.sent_bytes(alloc, ino, frag)
     }
 
-    /// The subtree roots with their ranks, to read.
+    /// The subtree roots with their ranks.
     pub fn roots(&self) -> &Subtrees
         ensures { result.now.roots ≡ self.now.state.roots }
     {
         self.tree.roots()
     }
 
-    /// Each rank's hint on each subtree root of another names this rank, be it right or wrong: no answer depends on
+    /// Makes each rank's hint on each subtree root of another rank name this rank, right or wrong. No answer depends on
     /// hints. Takes no memory.
     pub fn set_hints(&mut self, rank: Rank)
         ensures { self.new ≡ self.old }
@@ -315,7 +314,7 @@ impl<S: Store + Drop> Cluster<S> {
 }
 
 impl<S: Keep + Drop> Cluster<S> {
-    /// Brings what the store has where it outlives the process. Whatever it answers, all is as it was.
+    /// Keeps the content of the store so that it outlives the process. Whatever it returns, the cluster is unchanged.
     pub fn keep(&mut self) -> Result<(), Unkept>
         ensures same { self.new ≡ self.old }
         ensures failed { IfErr result (λ _. S.may_fail) }
@@ -323,7 +322,7 @@ impl<S: Keep + Drop> Cluster<S> {
         self.tree.keep()
     }
 
-    /// Leaves what was kept whole in one place, as a run ends. Whatever it answers, all is as it was.
+    /// Gathers all that was kept in one place, at the end of a run. Whatever it returns, the cluster is unchanged.
     pub fn settle(&mut self) -> Result<(), Unkept>
         ensures same { self.new ≡ self.old }
         ensures failed { IfErr result (λ _. S.may_fail) }
@@ -339,7 +338,8 @@ struct Parts {
     given: Given,
 }
 
-// Nothing waits and nothing was given: for each of so many ranks an inbox, and all its numbers.
+// The parts of a new cluster: nothing waits, nothing was given, and each of so many ranks has an inbox and all its
+// numbers.
 fn parts_of(alloc: Global, ranks: u8) -> Result<Parts, AllocError>
     requires { ranks ≤ 16 }
     ensures inboxes { IfOk result (λ parts. parts.waiting.inboxes ≡ replicate ranks []) }

@@ -1,4 +1,4 @@
-//! What can happen to a cluster, and what a step answers.
+//! The events of a cluster, and the answers of its steps.
 ghost use Rattle.std.specs.Prelude.{◌≡◌, IfOk};
 
 use cached_frag::{Encoded, Job};
@@ -8,7 +8,7 @@ use std::alloc::AllocError;
 /// One event of the cluster, one atomic step.
 #[derive(Debug, Drop)]
 pub enum Event {
-    /// A request comes in at a rank, and waits at the back of its inbox.
+    /// A request arrives at a rank, and waits at the back of its inbox.
     Arrive {
         rank: Rank,
         request: Request,
@@ -17,7 +17,7 @@ pub enum Event {
     Serve {
         rank: Rank,
     },
-    /// A rank lets the request of this client and transaction number that waits somewhere change its fragments.
+    /// A rank lets the waiting request of this client and transaction number change the rank's fragments.
     Grant {
         rank: Rank,
         client: u64,
@@ -36,62 +36,62 @@ pub enum Event {
         ino: Ino,
         frag: Frag,
     },
-    /// A commit of a leaf begins: the job of its snapshot is given out.
+    /// A commit of a leaf begins, and returns the job with its snapshot.
     CommitBegin {
         rank: Rank,
         ino: Ino,
         frag: Frag,
     },
-    /// A commit ends: what was encoded is written.
+    /// A commit ends: its encoded job is written to the store.
     CommitEnd(Encoded),
-    /// The commit of this job's number is given up.
+    /// The commit of this job is given up.
     CommitDrop {
         job: u64,
     },
-    /// The object of a directory's tree is written, or removed.
+    /// The object of a directory's fragment tree is written or removed.
     CommitTree {
         ino: Ino,
     },
-    /// The first object of the purge list is removed.
+    /// The first object of the purge list is removed from the store.
     Purge,
-    /// The least recently used clean fragment of a rank's cache goes.
+    /// The least recently used clean fragment of a rank's cache is evicted.
     Evict {
         rank: Rank,
     },
-    /// An export of the region of a leaf starts, from its authority to another rank.
+    /// An export of the region of a leaf starts, from the leaf's authority to another rank.
     Start {
         from: Rank,
         ino: Ino,
         frag: Frag,
         to: Rank,
     },
-    /// The region of a started export freezes, and the commits that were begun in it are given up.
+    /// The region of a started export is frozen, and commits in it are given up.
     Freeze {
         ino: Ino,
         frag: Frag,
     },
-    /// The importer of a frozen region gets to know its bounds.
+    /// The importer of a frozen region learns the region's bounds.
     Prep {
         ino: Ino,
         frag: Frag,
     },
-    /// What isn't clean of a prepared region is handed out.
+    /// A prepared region is sent: the step returns the bytes of all that isn't clean in it.
     Send {
         ino: Ino,
         frag: Frag,
     },
-    /// What was sent of a region goes to its importer, which holds the region from then on.
+    /// The importer of a sent region takes its bytes, and holds the region from then on.
     Import {
         ino: Ino,
         frag: Frag,
         bytes: Bytes,
     },
-    /// The importer of an imported region is its authority, and the export ends.
+    /// The importer of an imported region becomes its authority, and the export ends.
     Finish {
         ino: Ino,
         frag: Frag,
     },
-    /// An export that isn't sent yet ends.
+    /// An export that isn't sent yet is cancelled.
     Cancel {
         ino: Ino,
         frag: Frag,
@@ -101,19 +101,19 @@ pub enum Event {
 /// The answer of a step that isn't refused.
 #[derive(Debug, Drop)]
 pub enum Answer {
-    /// Done, with nothing to say.
+    /// Done, with nothing to tell.
     Nothing,
-    /// Another rank is the request's master, and it waits there now.
+    /// The request was forwarded to its master, this rank, and waits there.
     Forwarded(Rank),
-    /// The request would change fragments that are frozen, or those of another rank that hasn't granted it, and waits
-    /// behind all others.
+    /// The request would change fragments that are frozen, or fragments of another rank that hasn't granted them. It
+    /// waits behind all others.
     Deferred,
-    /// The commit that was begun, to be encoded.
+    /// The job of the commit that began, to be encoded.
     Job(Job),
     /// The bytes of a region that was sent.
     Sent(Bytes),
-    /// The reply to a request, with its place in the history; `first` tells a request that was applied now from one
-    /// that had been applied before.
+    /// The reply to a request, with its place in the history. `first` tells whether the request was applied in this
+    /// step or before.
     Reply {
         client: u64,
         tid: u64,
@@ -124,7 +124,7 @@ pub enum Answer {
 }
 
 impl Event {
-    /// A copy. Takes memory for a request's names, for what was encoded, and for what was sent.
+    /// A copy. Takes memory for the names of a request, for encoded jobs, and for sent bytes.
     pub fn try_clone(&self) -> Result<Event, AllocError>
         ensures { IfOk result (λ copy. copy ≡ self.now) }
     {

@@ -1,4 +1,4 @@
-//! The steps of an export of a subtree, from one rank to another: what each does is unseen, but for the answer.
+//! The steps of an export of a subtree from one rank to another. Clients see nothing of what they change.
 ghost use Rattle.std.specs.Prelude.{◌≡◌, ◌≢◌, ◌+◌, ◌<◌, ◌≤◌, List, Some, MatchOption, length};
 ghost use Rattle.std.specs.FinMap as map;
 ghost use Rattle.std.specs.Result.{result_err};
@@ -31,7 +31,7 @@ use ranked_tree::RankedTree;
 use std::alloc::Global;
 
 impl<S: Store + Drop> Cluster<S> {
-    // An export starts.
+    // Starts an export.
     pub(crate) fn start(
         &mut self,
         from: Rank,
@@ -59,7 +59,7 @@ impl<S: Store + Drop> Cluster<S> {
         start_at(&mut self.tree, from, ino, frag, to)
     }
 
-    // The region of a started export freezes.
+    // Freezes the region of a started export.
     pub(crate) fn freeze(&mut self, ino: Ino, frag: Frag) -> Result<Answer, Refusal>
         ensures frozen { (past : List Applied) → FreezesExport self.old self.new past past (ino, frag) result }
         ensures authorities { KeepsAuthorities self.old.state.tree self.new.state.tree
@@ -74,7 +74,7 @@ impl<S: Store + Drop> Cluster<S> {
         freeze_at(&mut self.tree, &self.waiting.pins, ino, frag)
     }
 
-    // The importer of a frozen region gets to know its bounds.
+    // Tells the importer of a frozen region the region's bounds.
     pub(crate) fn prep(&mut self, alloc: Global, ino: Ino, frag: Frag) -> Result<Answer, Refusal>
         ensures prepared { (past : List Applied) → PrepsExport self.old self.new past past (ino, frag) result }
         ensures tree { self.new.state.tree ≡ self.old.state.tree }
@@ -87,7 +87,7 @@ impl<S: Store + Drop> Cluster<S> {
         Ok(Answer::Nothing)
     }
 
-    // What isn't clean of a prepared region is handed out.
+    // Sends a prepared region: returns the bytes of all that isn't clean in it.
     pub(crate) fn send(&mut self, alloc: Global, ino: Ino, frag: Frag) -> Result<Answer, Refusal>
         ensures sent { (past : List Applied) → SendsExport self.old self.new past past (ino, frag) result }
         ensures tree { self.new.state.tree ≡ self.old.state.tree }
@@ -100,7 +100,7 @@ impl<S: Store + Drop> Cluster<S> {
         Ok(Answer::Sent(bytes))
     }
 
-    // What was sent of a region goes to its importer, which holds the region from then on.
+    // Gives the bytes of a sent region to its importer, which holds the region from then on.
     pub(crate) fn import(
         &mut self,
         alloc: Global,
@@ -125,7 +125,7 @@ impl<S: Store + Drop> Cluster<S> {
         Ok(Answer::Nothing)
     }
 
-    // The importer of an imported region is its authority, and the export ends.
+    // Makes the importer of an imported region its authority, and ends the export.
     pub(crate) fn finish(&mut self, ino: Ino, frag: Frag) -> Result<Answer, Refusal>
         ensures finished { (past : List Applied) → FinishesExport self.old self.new past past (ino, frag) result }
         ensures tree { self.new.state.tree ≡ self.old.state.tree }
@@ -140,7 +140,7 @@ impl<S: Store + Drop> Cluster<S> {
         Ok(Answer::Nothing)
     }
 
-    // An export that isn't sent yet ends.
+    // Cancels an export that isn't sent yet.
     pub(crate) fn cancel(&mut self, ino: Ino, frag: Frag) -> Result<Answer, Refusal>
         ensures cancelled { (past : List Applied) → CancelsExport self.old self.new past past (ino, frag) result }
         ensures tree { self.new.state.tree ≡ self.old.state.tree }
@@ -154,7 +154,7 @@ impl<S: Store + Drop> Cluster<S> {
     }
 }
 
-// An export starts of the region of a leaf, from its authority to another rank.
+// Starts an export of the region of a leaf, from the leaf's authority to another rank.
 fn start_at<S: Store + Drop>(
     tree: &mut RankedTree<S>,
     from: Rank,
@@ -190,7 +190,7 @@ fn start_at<S: Store + Drop>(
     Ok(Answer::Nothing)
 }
 
-// The region of a started export freezes, unless its exporter isn't its authority any more, or a part of it is frozen
+// Freezes the region of a started export, unless its exporter isn't its authority any more, or a part of it is frozen
 // or granted.
 fn freeze_at<S: Store + Drop>(
     tree: &mut RankedTree<S>,
@@ -230,7 +230,7 @@ fn freeze_at<S: Store + Drop>(
     Ok(Answer::Nothing)
 }
 
-// The exporter of a root whose export is started.
+// The exporter of an export in the state started, if the root has one.
 fn started(exports: &Exports, ino: Ino, frag: Frag) -> Option<Rank>
     ensures { MatchOption result (state_at exports.now (ino, frag) ≢ Some state.Started)
         (λ exporter. (export : StandingExport) × (map.get exports.now (ino, frag) ≡ Some export)

@@ -1,4 +1,4 @@
-//! A flush: all that isn't in the store is written.
+//! A flush: writing all that the store doesn't have yet.
 ghost use Rattle.std.specs.Prelude.{◌≡◌, ◌+◌, ◌≤◌, ◌↔◌, IsTrue, List, length, OnOk, IfErr};
 ghost use Rattle.std.specs.FinMap as map;
 ghost use Rattle.std.specs.Result.{result_err};
@@ -17,14 +17,14 @@ use std::alloc::Global;
 use std::thread::Threads;
 
 impl<S: Store + Drop> Cluster<S> {
-    /// Whether no export stands.
+    /// Whether there is no export.
     pub(crate) fn has_no_export(&self) -> bool
         ensures { IsTrue result ↔ (self.now.state.exports ≡ map.empty) }
     {
         self.tree.exports().len() == 0
     }
 
-    /// Writes all that isn't in the store, as `RankedTree::flush` does and refuses.
+    /// Writes all that the store doesn't have yet, as `RankedTree::flush` does and refuses.
     pub(crate) fn flush(&mut self, rt: &(impl Threads + Sync), alloc: Global) -> Result<(), Refusal>
         requires few { length self.old.caches.used ≤ 256 }
         ensures cold { OnOk result (IsColdTree self.new.state.tree.objects (shown self.old.state)) }
@@ -42,18 +42,18 @@ impl<S: Store + Drop> Cluster<S> {
     }
 }
 
-/// Writes all that isn't in the store, so that whoever opens the store with nothing else at hand finds the tree after
-/// the history: commits that were begun are given up, each fragment that isn't clean is committed, the objects of
-/// directories' trees are brought up to date, and all that was to be removed is. The store has no object then but those
-/// of the leaves and of the trees of several leaves. Fragments are encoded on several threads, no more than 256 of them
-/// at once, and memory is taken for so many.
+/// Writes all that the store doesn't have yet, so that the store alone holds the tree after the history. Commits that
+/// were begun are given up, each fragment that isn't clean is committed, the objects of fragment trees are updated, and
+/// the objects on the purge list are removed. Afterwards the store has exactly the objects of the leaves, and those of
+/// the fragment trees with several leaves. Fragments are encoded on several threads, at most 256 at once, and memory is
+/// taken for so many.
 ///
-/// Whatever it answers, the opening tree, the history and the shown tree are as they were, and so are directories and
-/// their leaves, next numbers, authorities, inboxes, grants and sessions; no commit is begun any more.
+/// Whatever it returns, the opening tree, the history and the shown tree are unchanged, and so are directories and
+/// their leaves, next numbers, authorities, inboxes, grants and sessions. No commit is under way any more.
 ///
-/// Refused `NotClean` while an export stands, and then all is left, commits that were begun too. Refused `NoInodes`
-/// where a fragment's version is used up, or fewer than 256 numbers are left for jobs; otherwise as the store refuses,
-/// and `NoMemory`. Part of it may be written then, and another flush goes on with the rest.
+/// Refused `NotClean` while an export exists; then nothing changes, and commits that were begun remain. Refused
+/// `NoInodes` if a fragment's version is used up, or fewer than 256 job numbers are left. Otherwise refused as the
+/// store refuses, or `NoMemory`. Part of the content may be written then, and another flush writes the rest.
 pub fn flush<S: Store + Drop>(
     rt: &(impl Threads + Sync),
     alloc: Global,

@@ -14,7 +14,7 @@ use mds_types::Entry;
 use objstore::Store;
 
 impl<S: Store + Drop> Cluster<S> {
-    // Forgets so many entries of the front of the history, or fewer: `Sessions::forget` tells how many.
+    // Forgets so many entries from the front of the history, or fewer. Returns how many, as `Sessions::forget` tells.
     fn forget(&mut self, history: &mut Vec<Entry>, count: usize) -> usize
         requires { count ≤ length history.old.items }
         ensures few { result ≤ count }
@@ -27,7 +27,8 @@ impl<S: Store + Drop> Cluster<S> {
         self.given.sessions.forget(history, count)
     }
 
-    // Forgets so many entries of the front of the history, or fewer, as `Sessions::forget_passed` tells.
+    // Forgets so many entries from the front of the history, or fewer. Returns how many, as `Sessions::forget_passed`
+    // tells.
     fn forget_passed(&mut self, history: &mut Vec<Entry>, count: usize) -> usize
         requires { count ≤ length history.old.items }
         ensures few { result ≤ count }
@@ -51,21 +52,21 @@ impl<S: Store + Drop> Cluster<S> {
 }
 
 impl<S: Store + Drop> Book<S> {
-    /// How many entries there ever were: those that are forgotten and those of the history. It is the place that the
-    /// next entry gets.
+    /// How many entries there ever were: the forgotten ones and those of the history. It is the place of the next
+    /// entry.
     pub fn places(&self) -> usize
         ensures { result ≡ places_of self.now }
     {
         self.cluster.forgotten() + self.history.len()
     }
 
-    /// Forgets the history but for so many of its last entries, where at least as many go as stay, so that it costs
-    /// constant work an entry; else nothing. Tells how many entries went. Nobody can tell from what the book answers
-    /// that they are forgotten: a reply that is kept for a client is moved from its entry to the client's session. No
-    /// place changes, and the opening tree is no longer kept.
+    /// Forgets all but so many of the last entries of the history, if that forgets at least as many as it keeps, so
+    /// that it costs constant work for each entry. Otherwise forgets nothing. Returns how many entries were forgotten.
+    /// No answer of the book shows that entries are forgotten: a reply that is kept for a client is moved from its
+    /// entry to the client's session. No place changes. The opening tree is no longer kept.
     ///
-    /// Takes memory for the replies that are moved alone. Where it is refused, the entry and those behind it stay, and
-    /// a later call goes on there; so it is once 2^62 entries are forgotten.
+    /// Takes memory for the moved replies alone. If that is refused, this entry and all behind it stay, and a later
+    /// call goes on there. The same happens once 2^62 entries are forgotten.
     pub fn forget(&mut self, keep: usize) -> usize
         ensures few { result ≤ length self.old.history - keep }
         ensures waits { length self.old.history - keep < keep → result ≡ 0 }
@@ -88,9 +89,9 @@ impl<S: Store + Drop> Book<S> {
         went
     }
 
-    /// Forgets the beginning of the history of which no reply is kept for a client, up to the first entry whose reply
-    /// is, and tells how many entries went: what clients repeat is answered from the history. Nothing else changes, but
-    /// that the opening tree is no longer kept where any went. Takes no memory, and moves the entries that stay.
+    /// Forgets entries from the front of the history up to the first whose reply is kept for a client, and returns how
+    /// many. A repeat is therefore still answered from the history. Nothing else changes, but the opening tree is no
+    /// longer kept if any entry was forgotten. Takes no memory, and moves the entries that stay.
     pub fn forget_passed(&mut self) -> usize
         ensures few { result ≤ length self.old.history }
         ensures stops { (e : Applied) → result < length self.old.history
@@ -110,8 +111,8 @@ impl<S: Store + Drop> Book<S> {
         went
     }
 
-    /// The tree that the book opened with is no longer kept: it is a second copy of that tree, which no call needs.
-    /// Nothing else changes.
+    /// Drops the tree that the book opened with. It is a second copy of a tree, which no call needs. Nothing else
+    /// changes.
     pub fn drop_opening(&mut self)
         ensures gone { self.new.opening ≡ None }
         ensures history { self.new.history ≡ self.old.history }
@@ -123,7 +124,7 @@ impl<S: Store + Drop> Book<S> {
     }
 }
 
-// Where entries went the opening tree goes too.
+// If entries were forgotten, the opening tree is forgotten too.
 fn forget_opening(opening: &mut Option<PlainTree>, went: usize)
     ensures stays { went ≡ 0 → opening.new ≡ opening.old }
     ensures gone { 0 < went → opening.new ≡ None }

@@ -1,4 +1,4 @@
-//! A request that waits is given up.
+//! Giving up a request that waits.
 ghost use Rattle.std.specs.Prelude.{List};
 ghost use Rattle.cluster_core.specs.Opening.{Opening};
 ghost use Rattle.mds_types.specs.declared.entries.Entry.{Entry as Applied};
@@ -12,7 +12,7 @@ use mds_types::Rank;
 use objstore::Store;
 
 impl<S: Store + Drop> Cluster<S> {
-    /// The request at the front of a rank's inbox leaves it with its grants, if one waits there.
+    /// Removes the request at the front of a rank's inbox, with its grants, if one waits there.
     pub(crate) fn give_up(&mut self, rank: Rank)
         ensures { GivesUpIn self.old self.new rank (waiting_at self.old.state.inboxes rank) }
     {
@@ -22,8 +22,8 @@ impl<S: Store + Drop> Cluster<S> {
     }
 }
 
-/// The request at the front of a rank's inbox is given up, if one waits there: it leaves with its grants, as if it had
-/// never come. Nothing else changes, and nothing is told.
+/// Gives up the request at the front of a rank's inbox, if one waits there: it leaves with its grants, as if it had
+/// never arrived. Nothing else changes, and no reply is given.
 pub fn give_up<S: Store + Drop>(book: &mut Book<S>, rank: Rank)
     ensures given { GivesUp book.old book.new rank }
     ensures goes_on { (opening : Opening) (past : List Applied) → StandsBehind opening past book.old

@@ -1,4 +1,4 @@
-//! How a rank goes on with the exports of which it is the exporter. No memory is taken.
+//! The next step of a rank's exports. No memory is taken.
 ghost use Rattle.std.specs.Prelude.{◌↔◌, ℕ, List, IsTrue, MatchOption};
 ghost use Rattle.export_steps.specs.declared.exports.ExportState.TheVariants as at;
 ghost use Rattle.inboxes.specs.declared.pins.Pin.{Pin};
@@ -34,7 +34,7 @@ pub fn next_of_exports<S: Store + Drop>(
     None
 }
 
-// The next step of an export of the rank's by its state, if it has one.
+// The next step of an export of the rank's, from its state, if it has one.
 fn next_step<S: Store + Drop>(
     tree: &RankedTree<S>,
     grants: &Pins,
@@ -60,8 +60,8 @@ fn next_step<S: Store + Drop>(
     }
 }
 
-// The next step of a started export: its region freezes, unless a part of it is frozen or granted; where its root ended
-// or is another rank's it never can, and the export ends.
+// The next step of a started export. If its root no longer exists or is another rank's, the region can never freeze,
+// and the export is cancelled. Otherwise it freezes, unless a part of the region is frozen or granted.
 fn begin<S: Store + Drop>(
     tree: &RankedTree<S>,
     grants: &Pins,
@@ -82,7 +82,7 @@ fn begin<S: Store + Drop>(
     None
 }
 
-// Whether no part of the region that a leaf of the rank's has as a root is frozen or granted.
+// Whether no part of the region that a leaf of the rank has as a root is frozen or granted.
 fn may_freeze<S: Store + Drop>(tree: &RankedTree<S>, grants: &Pins, ino: Ino, frag: Frag) -> bool
     ensures { (ranks : ℕ) (rank : RankNumber) → IsMine (sight_of tree.now grants.now ranks rank) (ino, frag)
         → IsTrue result ↔ WouldFreeze (sight_of tree.now grants.now ranks rank) (ino, frag) }
@@ -93,7 +93,7 @@ fn may_freeze<S: Store + Drop>(tree: &RankedTree<S>, grants: &Pins, ino: Ino, fr
     !is_region_pinned(tree, grants, ino, frag)
 }
 
-/// Whether there is such a leaf, and a rank is its authority.
+/// Whether this leaf exists and a rank is its authority.
 pub fn is_mine<S: Store + Drop>(tree: &RankedTree<S>, rank: Rank, ino: Ino, frag: Frag) -> bool
     ensures { (grants : List Pin) (ranks : ℕ) → IsTrue result ↔ IsMine
         (sight_of tree.now grants ranks rank) (ino, frag) }

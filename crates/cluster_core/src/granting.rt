@@ -1,4 +1,4 @@
-//! Grants: a rank lets a request that waits somewhere change its fragments.
+//! Grants: a rank lets a waiting request change the rank's fragments.
 ghost use Rattle.std.specs.Prelude.{◌≡◌, ◌+◌, ◌<◌, List, IfErr, IfOk, MatchBool, OnErr, OnOk, length};
 ghost use Rattle.objstore.specs.Objects.{faults_told};
 ghost use Rattle.std.specs.Result.{result_err};
@@ -21,9 +21,9 @@ use objstore::Store;
 use ranked_tree::RankedTree;
 use std::alloc::{AllocError, Global};
 
-/// A rank grants the first waiting copy of a request all its own fragments that the request would change now, where
-/// none of them is frozen. Takes memory for the list of these, and for the grants, which are made on a copy: a refusal
-/// leaves all.
+/// A rank grants the first waiting copy of a request all fragments of the rank that it would change now, if none of
+/// them is frozen. Takes memory for the list of them, and for the grants, which are made on a copy: a refusal changes
+/// nothing.
 pub(crate) fn grant_first<S: Store + Drop>(
     alloc: Global,
     tree: &mut RankedTree<S>,
@@ -60,9 +60,8 @@ pub(crate) fn grant_first<S: Store + Drop>(
     Ok(Answer::Nothing)
 }
 
-// Those of some leaves of which a rank is the authority, of which there are some, and none is frozen. Refused
-// `NotAuthority` exactly where there is none, `NoMemory` only where there is one, and `Frozen` where one of them is
-// frozen.
+// Those leaves whose authority is a rank. Refused `NotAuthority` exactly where there is none, `Frozen` if one of them
+// is frozen, and `NoMemory` only where there is one.
 fn some_held<S: Store + Drop>(
     alloc: Global,
     tree: &RankedTree<S>,
@@ -101,7 +100,7 @@ fn is_one_frozen<S: Store + Drop>(tree: &RankedTree<S>, leaves: &Vec<(Ino, Frag)
     false
 }
 
-// Those of some leaves of which a rank is the authority; memory can lack only where there is one.
+// Those leaves whose authority is a rank. Memory can be refused only where there is one.
 fn held_among<S: Store + Drop>(
     alloc: Global,
     tree: &RankedTree<S>,
@@ -121,7 +120,7 @@ fn held_among<S: Store + Drop>(
     Ok(held)
 }
 
-// Grants all these leaves for a request, or, for want of memory, none.
+// Grants all these leaves to a request; or none, if memory is refused.
 fn pin_all(
     pins: &mut Pins,
     client: u64,
@@ -135,7 +134,7 @@ fn pin_all(
     Ok(())
 }
 
-// A copy of the grants with those of these leaves for a request.
+// A copy of the grants, with these leaves granted to a request.
 fn granted(
     pins: &Pins,
     client: u64,

@@ -1,4 +1,4 @@
-//! The bytes that exports sent: those of each stay under its root until they are imported.
+//! The bytes that exports sent, kept under the roots of their exports until they are imported.
 ghost use Rattle.std.specs.Prelude.{◌≡◌, ◌<◌, IfOk, IsOk, IsSome, MatchOption, OnErr, OnOk, is_some, option_copied};
 ghost use Rattle.std.specs.FinMap as map;
 ghost use Rattle.cluster_core.specs.SentBytes.{HandsOut, bytes_for, none_sent};
@@ -8,9 +8,9 @@ use sorted_map::SortedMap;
 use std::alloc::{AllocError, Global};
 use std::marker::Model;
 
-/// Bytes by the roots of their exports, with room for more. After a Send nothing ends an export but that its bytes are
-/// imported, so the room to keep them is made before it, and an Import is given a copy: what is kept goes once the
-/// importer has it.
+/// Bytes by the roots of their exports, with room for more. After a Send only an Import of these bytes ends the export.
+/// Room for them is therefore reserved before the Send, and an Import gets a copy: the bytes are removed once it is
+/// done.
 #[derive(Drop)]
 pub struct KeptBytes {
     bytes: SortedMap<(Ino, Frag), Bytes>,
@@ -54,7 +54,7 @@ impl KeptBytes {
         self.bytes.get(&(ino, frag))
     }
 
-    /// A copy of the bytes that are kept under a root, or no bytes where none are. Takes memory for kept ones alone.
+    /// A copy of the bytes kept under a root, or no bytes if none are kept. Takes memory only if some are.
     pub fn copy_of(&self, ino: Ino, frag: Frag) -> Result<Bytes, AllocError>
         ensures copied { IfOk result (λ copy. copy ≡ bytes_for self.now (ino, frag)) }
         ensures err { OnErr result (IsSome (map.get self.now.bytes (ino, frag))) }
@@ -65,7 +65,7 @@ impl KeptBytes {
         }
     }
 
-    /// Makes room for the bytes of one more export. Where it is there already nothing is done.
+    /// Reserves room for the bytes of one more export, unless there is room.
     pub fn reserve(&mut self) -> Result<(), AllocError>
         ensures room { OnOk result (0 < self.new.room) }
         ensures same { self.new.bytes ≡ self.old.bytes }
@@ -75,7 +75,7 @@ impl KeptBytes {
         self.bytes.reserve(1)
     }
 
-    /// Keeps bytes under a root, in place of those that were kept there. There has to be room. Takes no memory.
+    /// Keeps bytes under a root, and replaces those kept there before. There must be room. Takes no memory.
     pub fn keep(&mut self, ino: Ino, frag: Frag, bytes: Bytes)
         requires { 0 < self.old.room }
         ensures { self.new.bytes ≡ map.insert self.old.bytes (ino, frag) bytes }
@@ -83,8 +83,8 @@ impl KeptBytes {
         drop(self.bytes.insert((ino, frag), bytes));
     }
 
-    /// Hands out the bytes of the least root, with the root, and keeps them no longer: none exactly where none are kept.
-    /// Takes no memory.
+    /// Removes and returns the bytes of the least root, with the root. None exactly where none are kept. Takes no
+    /// memory.
     pub fn pop_first(&mut self) -> Option<((Ino, Frag), Bytes)>
         ensures { MatchOption result ((self.old.bytes ≡ map.empty) × (self.new.bytes ≡ self.old.bytes))
             (HandsOut self.old.bytes self.new.bytes) }
@@ -92,7 +92,7 @@ impl KeptBytes {
         self.bytes.pop_first()
     }
 
-    /// Keeps the bytes of a root no longer. Takes no memory.
+    /// Removes the bytes of a root. Takes no memory.
     pub fn forget(&mut self, ino: Ino, frag: Frag)
         ensures { self.new.bytes ≡ map.remove self.old.bytes (ino, frag) }
     {

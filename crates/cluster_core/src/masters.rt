@@ -1,4 +1,4 @@
-//! Which rank answers a request.
+//! The master of a request: the rank that answers it.
 ghost use Rattle.std.specs.Prelude.{◌≡◌, ℕ, IfSome, MatchOption};
 ghost use Rattle.mds_types.specs.Leaf.{leaf_of};
 ghost use Rattle.namespace_ops.specs.Places.{AreLocated, IsAt};
@@ -13,9 +13,9 @@ use namespace_ops::{Located, Places, locate};
 use objstore::Store;
 use ranked_tree::RankedTree;
 
-/// Where the names of an operation lie that a rank serves, and its master: the authority of its dentry's leaf, of a
-/// rename the destination's, of a readdir the directory's first. Where the directory isn't there, the rank itself.
-/// Takes no memory.
+/// Locates the names of an operation for the rank that serves it, and tells its master. The master is the authority of
+/// its dentry's leaf; of a rename, that of the destination's; of a readdir, that of the directory's first leaf. If the
+/// directory doesn't exist, the master is the serving rank itself. Takes no memory.
 pub fn locate_master<S: Store + Drop>(tree: &RankedTree<S>, rank: Rank, op: &Op) -> (Places, Rank)
     ensures located { AreLocated (shown_tree (tree_state tree.now.tree)) tree.now.tree.covers
         (HoldsAt (tree_state tree.now.tree) (held_roots tree.now)) op.now result.0 }
@@ -25,8 +25,8 @@ pub fn locate_master<S: Store + Drop>(tree: &RankedTree<S>, rank: Rank, op: &Op)
     (places, master_of(tree, rank, places.main))
 }
 
-/// A rank's hint on the subtree root that led it to another as the master names the root's rank from then on. Takes no
-/// memory.
+/// Corrects a rank's hint on the subtree root that led it to another rank: from then on it names the authority that the
+/// master names. Takes no memory.
 pub fn correct_hint<S: Store + Drop>(tree: &mut RankedTree<S>, rank: Rank, places: &Places)
     ensures { tree.new ≡ tree.old }
 {
@@ -35,7 +35,7 @@ pub fn correct_hint<S: Store + Drop>(tree: &mut RankedTree<S>, rank: Rank, place
     }
 }
 
-// The authority of the leaf which was found, or the rank that serves.
+// The authority of the leaf that was found, or the serving rank if none was.
 fn master_of<S: Store + Drop>(tree: &RankedTree<S>, rank: Rank, found: Option<Located>) -> Rank
     requires { IfSome found
         (λ located. (dir hash : ℕ) × IsAt (shown_tree (tree_state tree.now.tree)) tree.now.tree.covers

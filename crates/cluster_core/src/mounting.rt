@@ -1,4 +1,4 @@
-//! A cluster and a book over a store as it is found.
+//! Mounting: a cluster and a book over a store with objects.
 ghost use Rattle.std.specs.Prelude.{◌≡◌, ◌+◌, ◌≤◌, [], length, Some, IfOk, IfErr};
 ghost use Rattle.sessions.specs.Table.{no_table};
 ghost use Rattle.sorted_map.specs.SortedMap.{contents};
@@ -27,9 +27,9 @@ use ranked_tree::RankedTree;
 use std::alloc::Global;
 
 impl<S: Store + Drop> Cluster<S> {
-    /// A cluster of so many ranks over a store as it is found, with a cache of so many places each, and the tree that
-    /// it opens with. `RankedTree::mount` makes and refuses the tree; each rank has the numbers that it tells, and
-    /// nothing waits.
+    /// A cluster of so many ranks over a store as it is, with so many places in each cache, and the tree that it opens
+    /// with. `RankedTree::mount` makes the tree or refuses. Each rank has the numbers that the mount tells, and nothing
+    /// waits.
     pub(crate) fn mount(
         alloc: Global,
         store: S,
@@ -65,7 +65,7 @@ impl<S: Store + Drop> Cluster<S> {
         }
     }
 
-    /// The store, handed back; all else is dropped.
+    /// Returns the store, and drops all else.
     pub(crate) fn into_store(self) -> S
         ensures objects { S.objects result ≡ self.state.tree.objects }
         ensures faults { S.faults result ≡ self.faults }
@@ -80,7 +80,7 @@ impl<S: Store + Drop> Cluster<S> {
         tree.into_store()
     }
 
-    // A cluster over a tree that was mounted, with what waits; and the tree that it opens with.
+    // A cluster over a mounted tree, in which nothing waits, and the tree that it opens with.
     fn of_mounted(
         alloc: Global,
         tree: RankedTree<S>,
@@ -105,17 +105,17 @@ impl<S: Store + Drop> Cluster<S> {
     }
 }
 
-/// A book of so many ranks over a store as it is found: it opens with the store's cold tree, with an empty history, and
-/// nothing that waits. `cache` is the number of fragments that a rank may cache, and `limit` that of the entries that a
-/// directory may have: one that has more stays as it is, and takes no further one. Nothing is written. Takes memory for
-/// all entries and for the names of all objects.
+/// A book of so many ranks over a store as it is. It opens with the store's cold tree, the history is empty, and
+/// nothing waits. `cache` is the number of fragments that a rank may cache. `limit` is the number of entries that a
+/// directory may have: one that already has more stays as it is, and takes no new entry. Nothing is written. Takes
+/// memory for all entries and for the names of all objects.
 ///
-/// A store that has no object gives the book of `format`. Otherwise nothing is cached and all is clean; the leaves of
-/// the root directory are rank 0's; each rank's next number follows the greatest of its range in the tree, so a number
-/// that was freed before may come again; and the objects that no directory reaches are to be removed.
+/// A store that has no object gives the book of `format`. Otherwise nothing is cached and all is clean. The authority
+/// of the root directory's leaves is rank 0. Each rank's next number follows the greatest of its range in the tree, so
+/// a number that was freed before may be given again. The objects that no directory reaches are on the purge list.
 ///
-/// Refused `Damaged`, with the name of a faulty object, where the store has objects; otherwise `StoreFault` as the
-/// store refuses a call, and `NoMemory`; the store is handed back then, with its objects as they were.
+/// Refused `Damaged`, with the name of a faulty object, if the store has objects. Otherwise refused `StoreFault`, as
+/// the store refuses a call, or `NoMemory`. Then the store is returned, with its objects as they were.
 pub fn mount<S: Store + Drop>(
     alloc: Global,
     store: S,

@@ -1,4 +1,4 @@
-//! What a cluster has beside its tree.
+//! The parts of a cluster beside its tree.
 ghost use Rattle.std.specs.Prelude.{◌≡◌, ◌<◌, [], length, get_or, replicate, IfOk};
 ghost use Rattle.inboxes.specs.Inboxes.{waiting_at};
 ghost use Rattle.cluster_core.specs.Serve.{AtFront, HasLeft};
@@ -12,7 +12,7 @@ use mds_types::{Limit, Rank};
 use sessions::{SessionAt, Sessions};
 use std::alloc::{AllocError, Global};
 
-/// The requests that wait at each rank, and the grants for them that stand.
+/// The requests that wait at each rank, and the grants for them.
 #[derive(Drop)]
 pub(crate) struct Waiting {
     pub(crate) inboxes: Inboxes,
@@ -20,7 +20,7 @@ pub(crate) struct Waiting {
 }
 
 impl Waiting {
-    /// Nothing waits at any of so many ranks. Takes all memory that requests which wait will need.
+    /// Nothing waits at any of so many ranks. Takes all memory that waiting requests will need.
     pub(crate) fn new(alloc: Global, ranks: u8) -> Result<Waiting, AllocError>
         ensures inboxes { IfOk result (λ waiting. waiting.inboxes ≡ replicate ranks []) }
         ensures pins { IfOk result (λ waiting. waiting.pins ≡ []) }
@@ -31,7 +31,7 @@ impl Waiting {
         })
     }
 
-    /// The request at the front of a rank's inbox, where one waits, leaves it, and its grants end.
+    /// The request at the front of a rank's inbox, in which one waits, leaves it, and its grants end.
     #[inline(never)]
     pub(crate) fn end_front(&mut self, rank: Rank)
         requires waits { 0 < length (waiting_at self.old.inboxes rank) }
@@ -46,7 +46,8 @@ impl Waiting {
     }
 }
 
-/// What was given out: of each rank's inode numbers those that are left, and for each client where its replies are.
+/// What was given out: the inode numbers that each rank has left, and the sessions with the places of each client's
+/// replies.
 #[derive(Drop)]
 pub(crate) struct Given {
     pub(crate) numbers: Vec<Numbers>,
@@ -65,7 +66,7 @@ impl Given {
         }
     }
 
-    /// The inode numbers that a rank has left, which is there.
+    /// The inode numbers that an existing rank has left.
     pub(crate) fn supply_of(&self, rank: Rank) -> Numbers
         requires { rank.0 < length self.now.numbers.items }
         ensures { result ≡ get_or self.now.numbers.items rank.0 no_supply }
@@ -74,7 +75,7 @@ impl Given {
     }
 }
 
-/// What was found of the new request at the front of its master's inbox: how many entries a directory may have, the
+/// What is known of the new request at the front of its master's inbox: how many entries a directory may have, the
 /// numbers that the master has left, and where the client's session is.
 #[derive(Drop)]
 pub(crate) struct Asked {

@@ -1,4 +1,4 @@
-//! Whether grants stand on leaves of a directory, or of a region. No memory is taken.
+//! Whether leaves of a directory or of a region are granted. No memory is taken.
 ghost use Rattle.std.specs.Prelude.{◌↔◌, IsTrue};
 ghost use Rattle.cluster_core.specs.Administers.{IsAnyPinned};
 ghost use Rattle.cluster_core.specs.Exporting.{HasPinnedUnder};
@@ -10,8 +10,8 @@ use objstore::Store;
 use ranked_tree::{RankedTree, leaf_inside};
 use subtree_map::end_of;
 
-/// Whether a leaf is pinned of the region that a leaf has once it is a subtree root. The way up is climbed for each
-/// pin.
+/// Whether a leaf is granted that is in the region which a leaf has as a subtree root. For each grant this climbs up
+/// the tree.
 pub fn is_region_pinned<S: Store + Drop>(
     tree: &RankedTree<S>,
     pins: &Pins,
@@ -30,7 +30,7 @@ pub fn is_region_pinned<S: Store + Drop>(
     false
 }
 
-/// Whether a leaf of a directory that lies properly inside a fragment is pinned. Takes no memory.
+/// Whether a leaf of a directory that is properly inside a fragment is granted. Takes no memory.
 pub fn is_any_pinned<S: Store + Drop>(
     tree: &RankedTree<S>,
     pins: &Pins,
@@ -42,7 +42,7 @@ pub fn is_any_pinned<S: Store + Drop>(
     some_pinned(tree.dirs(), pins, dir, frag)
 }
 
-// Whether a leaf inside a fragment is pinned.
+// Whether a leaf inside a fragment is granted.
 fn some_pinned(dirs: &Dirs, pins: &Pins, dir: Ino, frag: Frag) -> bool
     ensures { IsTrue result ↔ IsAnyPinned dirs.now.homes dirs.now.trees pins.now dir frag }
 {

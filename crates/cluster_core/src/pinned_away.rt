@@ -1,4 +1,4 @@
-//! Which subtree of a rank's is pinned to another rank, so that an export of it starts. No memory is taken.
+//! Which subtree of a rank is pinned to another rank, so that an export of it starts. No memory is taken.
 ghost use Rattle.std.specs.Prelude.{◌≡◌, ◌≢◌, ◌⊎◌, ◌↔◌, ◌<◌, ℕ, None, Some, IsSome, IsTrue, MatchOption, List};
 ghost use Rattle.std.specs.FinMap as map;
 ghost use Rattle.inboxes.specs.declared.pins.Pin.{Pin};
@@ -15,10 +15,10 @@ use objstore::Store;
 use ranked_tree::RankedTree;
 use subtree_map::end_of;
 
-/// A leaf that is to start for another rank.
+/// A leaf whose export is to start, and the rank that imports it.
 type Away = ((Ino, Frag), Rank);
 
-/// The start of an export of the first leaf of a rank's that is pinned to another: a subtree root, or a leaf of a
+/// The start of an export of the first leaf of a rank that is pinned to another rank: a subtree root, or a leaf of a
 /// directory with a pin of its own.
 pub fn first_start<S: Store + Drop>(tree: &RankedTree<S>, ranks: usize, rank: Rank) -> Option<Event>
     ensures { (grants : List Pin) → IsFirstStep (sight_of tree.now grants ranks rank) OfPin result }
@@ -39,7 +39,7 @@ pub fn first_start<S: Store + Drop>(tree: &RankedTree<S>, ranks: usize, rank: Ra
     }
 }
 
-// The first subtree root that is to start.
+// The first subtree root whose export is to start.
 fn first_root<S: Store + Drop>(tree: &RankedTree<S>, ranks: usize, rank: Rank) -> Option<Away>
     ensures { (grants : List Pin) → IsFirstAway (sight_of tree.now grants ranks rank)
         (IsRootAt (sight_of tree.now grants ranks rank)) result }
@@ -54,7 +54,7 @@ fn first_root<S: Store + Drop>(tree: &RankedTree<S>, ranks: usize, rank: Rank) -
     None
 }
 
-// The first leaf of a directory with a pin that is to start.
+// The first leaf of a directory with a pin whose export is to start.
 fn first_pinned<S: Store + Drop>(tree: &RankedTree<S>, ranks: usize, rank: Rank) -> Option<Away>
     ensures { (grants : List Pin) → IsFirstAway (sight_of tree.now grants ranks rank)
         (IsOfPinned (sight_of tree.now grants ranks rank)) result }
@@ -70,7 +70,7 @@ fn first_pinned<S: Store + Drop>(tree: &RankedTree<S>, ranks: usize, rank: Rank)
     None
 }
 
-// The first leaf of a directory that is to start.
+// The first leaf of a directory whose export is to start.
 fn first_of_dir<S: Store + Drop>(
     tree: &RankedTree<S>,
     ranks: usize,
@@ -92,8 +92,8 @@ fn first_of_dir<S: Store + Drop>(
     None
 }
 
-// The rank that a leaf is to start for: another one that is there, to which its directory is pinned, where an export
-// may start.
+// The rank to which an export of a leaf is to start: another existing rank, to which the leaf's directory is pinned, if
+// an export may start.
 fn away_to<S: Store + Drop>(
     tree: &RankedTree<S>,
     ranks: usize,
@@ -117,7 +117,7 @@ fn away_to<S: Store + Drop>(
     Some(to)
 }
 
-// Whether a rank is there, and not this one.
+// Whether a rank exists and isn't this one.
 fn is_another(ranks: usize, rank: Rank, to: Rank) -> bool
     ensures { IsTrue result ↔ ((to ≢ rank) × (to.0 < ranks)) }
 {
@@ -127,7 +127,7 @@ fn is_another(ranks: usize, rank: Rank, to: Rank) -> bool
     usize::from(to.0) < ranks
 }
 
-// Whether an export of a leaf may start: the leaf is the rank's own and thawed, and none stands.
+// Whether an export of a leaf may start: the rank is its authority, it isn't frozen, and it has no export yet.
 fn may_start<S: Store + Drop>(tree: &RankedTree<S>, rank: Rank, ino: Ino, frag: Frag) -> bool
     ensures { (grants : List Pin) (ranks : ℕ) → IsTrue result ↔ WouldStart
         (sight_of tree.now grants ranks rank) (ino, frag) }
@@ -157,7 +157,7 @@ fn pin_of(dirs: &Dirs, dir: Ino) -> Option<Rank>
     dirs.pin(at)
 }
 
-// Where a directory stands that has no pin of its own.
+// The dentry of a directory that has no pin of its own.
 fn unpinned_home(dirs: &Dirs, dir: Ino) -> Option<&Home>
     ensures { MatchOption result
         (IsSome (map.get dirs.now.pins dir.0) ⊎ (map.get dirs.now.homes dir.0 ≡ None))
@@ -169,7 +169,7 @@ fn unpinned_home(dirs: &Dirs, dir: Ino) -> Option<&Home>
     dirs.get(dir)
 }
 
-// The one at the lesser leaf.
+// The start of the lesser leaf, of two.
 fn lesser(one: Option<Away>, other: Option<Away>) -> Option<Away>
     ensures { (s : Sight) → IsFirstAway s (IsRootAt s) one → IsFirstAway s
         (IsOfPinned s) other → IsFirstAway s (IsProposable s) result }
@@ -180,7 +180,7 @@ fn lesser(one: Option<Away>, other: Option<Away>) -> Option<Away>
     }
 }
 
-// The one at the lesser leaf of one and another, if there is another.
+// The start of the lesser leaf, of one and another, if there is another.
 fn lesser_of(first: Away, other: Option<Away>) -> Away
     ensures { result ≡ lesser_candidate first other }
 {

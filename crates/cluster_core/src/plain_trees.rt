@@ -70,13 +70,13 @@ impl PartialEq for PlainTree {
         (pair_decides ⟦<Dentry as PartialEq>⟧.eq ⟦<Inode as PartialEq>⟧.eq
         (λ (a b : DentryValue.Dentry). Prim.search rules) inode_decides)))) };
 
-    /// Whether both are the same tree.
+    /// Whether both trees are the same.
     fn eq(&self, other: &PlainTree) -> bool
         ensures value { result ≡ pointwise (pairs_eq ⟦<Dentry as PartialEq>⟧.eq ⟦<Inode as PartialEq>⟧.eq)
             (map.entries self.now) (map.entries other.now) }
         ensures same { IsTrue result ↔ (self.now ≡ other.now) }
     {
-        // The contract of `len` is what says here that the keys of a map rise.
+        // The contract of `len` tells here that the keys of a map are in order.
         let _ = self.entries.len();
         let _ = other.entries.len();
         self.entries == other.entries

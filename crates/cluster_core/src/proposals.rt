@@ -1,4 +1,4 @@
-//! Laws of proposals, each the contract of a function that does nothing.
+//! Laws of proposals, each as the contract of a function that does nothing.
 ghost use Rattle.cluster_core.specs.Proposal.{NoCandidateNoProposal, ProposedMergesPass, ProposedSplitsPass, ThereIsOne};
 
 /// A rank proposes at most one step.
@@ -16,7 +16,7 @@ pub fn proposed_merges_pass()
     ensures { ProposedMergesPass }
 {}
 
-/// Where a rank has no candidate of a kind, it proposes nothing of that kind.
+/// If a rank has no candidate of a kind, it proposes nothing of that kind.
 pub fn no_candidate_no_proposal()
     ensures { NoCandidateNoProposal }
 {}

@@ -1,4 +1,4 @@
-//! What a rank would do next on its own.
+//! The step that a rank proposes of its own.
 ghost use Rattle.std.specs.Prelude.{◌≡◌, ◌↔◌, ◌∷◌, [], ◌<◌, true, IsTrue, List, None, Ok, length};
 ghost use Rattle.inboxes.specs.declared.pins.Pin.{Pin};
 ghost use Rattle.cluster_core.specs.Proposal.{IsFirstKindOf, IsFirstStep, IsProposal, OfLarge, OfPin, OfSmall, Proposes, WouldNot, sight, sight_of};
@@ -16,8 +16,8 @@ use objstore::Store;
 use ranked_tree::RankedTree;
 
 impl<S: Store + Drop> Cluster<S> {
-    // The rank's own next step, if it has one. `is_settled` says that nothing of the rank's is known to be pinned to
-    // another, so that it isn't looked for.
+    // The rank's own next step, if it has one. If `is_settled`, no subtree of the rank is pinned to another rank, and
+    // none is looked for.
     //
     // Refused `NotAuthority` exactly where there is no such rank.
     fn propose(&self, rank: Rank, is_settled: bool) -> Result<Option<Event>, Refusal>
@@ -35,9 +35,10 @@ impl<S: Store + Drop> Cluster<S> {
 }
 
 impl<S: Store + Drop> Book<S> {
-    /// The rank's own next step, if it has one: the first that applies of the next step of an export of which it is the
-    /// exporter, the split of a leaf with more than 10,000 entries, the merge of eight leaves with fewer than 50
-    /// together, and the start of an export of what is pinned to another rank; each at the least leaf. Nothing changes.
+    /// The rank's own next step, if it has one. It is the first of these that there is: the next step of an export
+    /// whose exporter it is; the split of a leaf with more than 10,000 entries; the merge of eight leaves with fewer
+    /// than 50 together; the start of an export of a leaf that is pinned to another rank. Each is proposed for the
+    /// least leaf. Nothing changes.
     ///
     /// Refused `NotAuthority` exactly where there is no such rank.
     pub fn propose(&mut self, rank: Rank) -> Result<Option<Event>, Refusal>
@@ -52,7 +53,7 @@ impl<S: Store + Drop> Book<S> {
         proposed
     }
 
-    // Where nothing is proposed to a rank and no export stands, nothing of the rank's is pinned away.
+    // Notes that no subtree of a rank is pinned to another rank, if the rank proposes nothing and there is no export.
     fn note_settled(&mut self, rank: Rank)
         requires { IsProposal (sight self.old.core rank) None }
         ensures { self.new ≡ self.old }
@@ -74,7 +75,7 @@ fn is_nothing(proposed: &Result<Option<Event>, Refusal>) -> bool
     }
 }
 
-// The first step that applies, of the four kinds in their order.
+// The first step of the four kinds, in their order.
 fn proposal<S: Store + Drop>(
     tree: &RankedTree<S>,
     grants: &Pins,
@@ -93,7 +94,7 @@ fn proposal<S: Store + Drop>(
     after_exports(tree, grants, ranks, rank, is_settled)
 }
 
-// The first that applies of a split, a merge and the start of an export.
+// The first step of the last three kinds: a split, a merge, or the start of an export.
 fn after_exports<S: Store + Drop>(
     tree: &RankedTree<S>,
     grants: &Pins,
@@ -112,7 +113,7 @@ fn after_exports<S: Store + Drop>(
     after_splits(tree, grants, ranks, rank, is_settled)
 }
 
-// The first that applies of a merge and the start of an export.
+// The first step of the last two kinds: a merge or the start of an export.
 fn after_splits<S: Store + Drop>(
     tree: &RankedTree<S>,
     grants: &Pins,
@@ -131,7 +132,7 @@ fn after_splits<S: Store + Drop>(
     start_unless(tree, ranks, rank, is_settled)
 }
 
-// The start of an export, unless it is known that none would start.
+// The start of an export, unless it is known that there is none.
 fn start_unless<S: Store + Drop>(
     tree: &RankedTree<S>,
     ranks: usize,

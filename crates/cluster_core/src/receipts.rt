@@ -2,8 +2,8 @@
 
 use mds_types::Reply;
 
-/// A reply that was handed out: whom it answers, the place in the history that it names, and whether the request was
-/// applied then.
+/// A reply that was handed out: the request that it answers, the place in the history that it names, and whether the
+/// request was applied then.
 #[derive(Debug, Drop, PartialEq, Eq)]
 pub struct Receipt {
     pub client: u64,

@@ -1,4 +1,4 @@
-//! What a rank would split and merge of what it caches. No memory is taken, and no cached fragment is looked at.
+//! The splits and merges that a rank proposes of fragments in its cache. No memory is taken, and no fragment is read.
 ghost use Rattle.std.specs.Prelude.{◌↔◌, ℕ, ◌<◌, ◌≤◌, IsTrue, length};
 ghost use Rattle.inode_table.specs.Dirs.{leaves_of};
 ghost use Rattle.dentry_cache.specs.Candidates.{child};
@@ -11,8 +11,8 @@ use mds_types::{Frag, Ino, Rank};
 use objstore::Store;
 use ranked_tree::RankedTree;
 
-/// The most leaves of a directory in which a rank splits one by 3 bits: with the eight that come it has as many as it
-/// may have.
+/// A rank splits no leaf of a directory with more leaves than these: a split by 3 bits adds seven, and a directory has
+/// at most 4096.
 const MOST_LEAVES: usize = 4089;
 
 /// The split of the first leaf that a rank would split.
@@ -62,7 +62,7 @@ pub fn first_merge<S: Store + Drop>(
     None
 }
 
-// Whether a rank may split a leaf that is large: it is idle, and its directory may have seven leaves more.
+// Whether a rank may split a large leaf: the leaf is idle, and its directory may have seven leaves more.
 fn may_split<S: Store + Drop>(
     tree: &RankedTree<S>,
     grants: &Pins,
@@ -92,7 +92,7 @@ fn may_merge<S: Store + Drop>(
 {
     tree.is_sound();
     for i in 0..8 {
-        // what has more than 24 bits is no leaf
+        // a fragment of more than 24 bits is no leaf
         let Some(child) = frag.child(i, 3) else {
             return false;
         };
@@ -103,7 +103,7 @@ fn may_merge<S: Store + Drop>(
     true
 }
 
-// Whether a leaf is a rank's own, and neither frozen nor granted.
+// Whether a rank is the authority of a leaf, and the leaf is neither frozen nor granted.
 fn is_idle<S: Store + Drop>(
     tree: &RankedTree<S>,
     grants: &Pins,

@@ -1,4 +1,4 @@
-//! A book that is closed, and opened again from its store alone.
+//! Closing a book, and opening it again from its store alone.
 ghost use Rattle.std.specs.Prelude.{◌≡◌, ◌≤◌, ◌++◌, [], List, Some, IfErr, IfOk};
 ghost use Rattle.cluster_core.specs.Opening.{Opening, fresh, after_from};
 ghost use Rattle.mds_types.specs.declared.entries.Entry.{Entry as Applied};
@@ -15,7 +15,7 @@ use std::alloc::Global;
 use std::thread::Threads;
 
 impl<S: Store + Drop> Book<S> {
-    /// The store, handed back; all else is dropped.
+    /// Returns the store, and drops all else.
     pub fn into_store(self) -> S
         ensures objects { S.objects result ≡ self.core.state.tree.objects }
         ensures faults { S.faults result ≡ self.core.faults }
@@ -38,14 +38,14 @@ impl<S: Store + Drop> Book<S> {
 pub enum NotRestarted<S: Store + Drop> {
     /// The flush was refused, as `flush` refuses.
     Unflushed(Refusal, Book<S>),
-    /// The mount of the store that it left was refused, as `mount` refuses.
+    /// The mount of the store after the flush was refused, as `mount` refuses.
     Unmounted(Refusal, S),
 }
 
-/// Flushes a book, drops all of it but its store, and mounts that: the book that comes back, of so many ranks, opens
-/// with the tree after the history of the one that was closed, whatever ranks and caches that had. What clients were
-/// told is known no more: a request that was applied before is a new one. Where it isn't opened again nothing is lost:
-/// the book is handed back as a refused flush leaves it, or the store with the tree after the history.
+/// Flushes a book, drops all of it but its store, and mounts the store. The new book has so many ranks, whatever ranks
+/// and caches the old one had, and opens with the tree after the old history. Sessions are lost: a request that was
+/// applied before is a new one. If the restart fails, the tree isn't lost: the book is returned as a refused flush
+/// leaves it, or the store with the tree after the history.
 pub fn restart<S: Store + Drop>(
     rt: &(impl Threads + Sync),
     alloc: Global,

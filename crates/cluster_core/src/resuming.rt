@@ -1,4 +1,4 @@
-//! A book that goes on from what an earlier one kept.
+//! A book that goes on with what an earlier one kept.
 ghost use Rattle.std.specs.Prelude.{◌≡◌, ◌+◌, ◌<◌, ◌≤◌, ◌×◌, [], List, Some, get_or, length, IfErr, IfOk};
 ghost use Rattle.objstore.specs.Objects.{faults_in};
 ghost use Rattle.cold_store.specs.ColdTree.{IsColdTree};
@@ -21,15 +21,15 @@ use sessions::Sessions;
 use std::alloc::Global;
 use std::mem;
 
-// How many numbers each rank hands out.
+// How many numbers each rank's range has.
 const PER_RANK: u64 = 1 << 40;
 
-/// A book over a store as it is found, as `mount` opens it, that goes on where an earlier one ended: with the sessions
-/// that were kept of it, and with the inode numbers that its ranks would have given next, by rank. A repeat of a request
-/// whose reply was kept is answered with that reply, one below its client's mark is refused `Trimmed`, and no number
-/// below a rank's next is given again. A number of ranks that this book doesn't have is left alone.
+/// A book over a store as it is, opened as `mount` opens it, that continues an earlier one. It has the sessions that
+/// were kept, and each rank's next inode number is at least the one kept for that rank. A repeat of a request whose
+/// reply was kept gets that reply. A request below its client's mark is refused `Trimmed`. No number below a rank's
+/// next is given again. Numbers kept for ranks that this book doesn't have are ignored.
 ///
-/// Refused as `mount` refuses; the sessions are dropped then.
+/// Refused as `mount` refuses; then the sessions are dropped.
 pub fn resume<S: Store + Drop>(
     alloc: Global,
     store: S,
@@ -97,7 +97,7 @@ impl<S: Store + Drop> Book<S> {
 }
 
 impl Given {
-    // Goes on with sessions that were kept, and with numbers that aren't below these.
+    // Goes on with kept sessions, and with next numbers that aren't below the kept ones.
     fn go_on(&mut self, sessions: Sessions, nexts: &[u64])
         requires few { length self.old.numbers.items ≤ 16 }
         requires own { (rank : ℕ) → rank < length self.old.numbers.items
@@ -113,7 +113,7 @@ impl Given {
     }
 }
 
-// Raises the next number of a rank's supply to one that was stored, or to the end of its range if that is beyond it.
+// Raises the next number of a rank's supply to one that was kept, or to the end of the rank's range if that is less.
 fn raise(numbers: &mut Numbers, rank: usize, next: u64)
     requires ranked { rank < 16 }
     requires own { numbers.old.rank ≡ rank }

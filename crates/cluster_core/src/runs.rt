@@ -14,9 +14,9 @@ use mds_types::Refusal;
 use objstore::Store;
 use std::alloc::Global;
 
-/// Steps a book by each event of a list, one after the other, and answers a result for each. The replies among them are
-/// those of one thread that serves one plain tree the requests that waited and those that arrive. The list of results
-/// is reserved before the first event: an error says that this was refused, and that nothing was done.
+/// Steps a book by each event of a list, one after the other, and returns a result for each. The replies among them are
+/// those of one thread that serves one plain tree the requests that waited and those that arrive. The memory for the
+/// results is taken before the first event: an error tells that it was refused, and that nothing was done.
 pub fn run<S: Store + Drop>(
     alloc: Global,
     book: &mut Book<S>,

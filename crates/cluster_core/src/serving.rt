@@ -35,9 +35,9 @@ use ranked_tree::RankedTree;
 use sessions::Seen;
 use std::alloc::Global;
 
-/// Serves the request at the front of a rank's inbox, which stays there until nothing can fail any more. One that was
-/// applied before is answered again; a new one goes to its master, or waits where it may not change what it would, or
-/// is applied.
+/// Serves the request at the front of a rank's inbox, which stays there until nothing can fail any more. If it was
+/// applied before, its reply is given again. A new one is forwarded to its master; or it waits, if the rank may not
+/// change a leaf that it would change; or it is applied.
 #[inline(never)]
 pub(crate) fn serve_front<S: Store + Drop>(
     alloc: Global,
@@ -99,7 +99,7 @@ pub(crate) fn serve_front<S: Store + Drop>(
     }
 }
 
-// Serves the new request at the front of its master's inbox, whose names lie there.
+// Serves the new request at the front of its master's inbox, whose names are already located.
 fn serve_new<S: Store + Drop>(
     alloc: Global,
     tree: &mut RankedTree<S>,
@@ -160,7 +160,7 @@ fn serve_new<S: Store + Drop>(
     }
 }
 
-// Answers the request at the front of a rank's inbox, where one waits, with the reply of its entry at this place.
+// Gives the reply of the entry at this place again, to the request at the front of a rank's inbox, in which one waits.
 #[inline(never)]
 fn answer_again(
     waiting: &mut Waiting,
@@ -192,7 +192,7 @@ fn answer_again(
     })
 }
 
-// The request at the front of a rank's inbox, where one waits, goes to the back of its master's.
+// Forwards the request at the front of a rank's inbox, in which one waits, to the back of its master's inbox.
 #[inline(never)]
 fn forward(inboxes: &mut Inboxes, rank: Rank, master: Rank) -> Result<Answer, Refusal>
     requires waits { 0 < length (waiting_at inboxes.old rank) }
@@ -207,7 +207,7 @@ fn forward(inboxes: &mut Inboxes, rank: Rank, master: Rank) -> Result<Answer, Re
     }
 }
 
-// Whether two ranks are one.
+// Whether two ranks are the same.
 fn is_same(one: Rank, other: Rank) -> bool
     ensures { IsTrue result ↔ (one ≡ other) }
 {

@@ -1,4 +1,5 @@
-//! Of which ranks a book knows that nothing of theirs is pinned to another rank, and which steps may change that.
+//! The ranks of which a book knows that none of their subtrees is pinned to another rank, and the steps that may change
+//! that.
 ghost use Rattle.std.specs.Prelude.{◌≡◌, ◌↔◌, ◌⊎◌, ◌++◌, ◌∷◌, [], true, false, IsTrue, List, length};
 ghost use Rattle.std.specs.List.{Contains};
 ghost use Rattle.mds_types.specs.declared.entries.Entry.{Entry as Applied};
@@ -9,15 +10,15 @@ use crate::events::Event;
 use mds_types::{Entry, Op, Rank};
 use std::alloc::Global;
 
-/// The ranks of which it is known that none of their subtrees is pinned to another rank, so that no proposal looks
-/// again.
+/// The ranks of which it is known that none of their subtrees is pinned to another rank, so that a proposal needn't
+/// look again.
 #[derive(Drop)]
 pub(crate) struct Settled {
     pub(crate) ranks: Vec<Rank>,
 }
 
 impl Settled {
-    /// It is known of none. Takes no memory.
+    /// Nothing is known of any rank yet. Takes no memory.
     pub(crate) fn new(alloc: Global) -> Settled
         ensures { result.ranks.items ≡ [] }
     {
@@ -26,14 +27,14 @@ impl Settled {
         }
     }
 
-    /// Whether it is known of a rank.
+    /// Whether this is known of a rank.
     pub(crate) fn knows(&self, rank: Rank) -> bool
         ensures { IsTrue result ↔ Contains self.now.ranks.items rank }
     {
         self.ranks.contains(&rank)
     }
 
-    /// It is known of a rank; where there is no memory for that, it is forgotten at once.
+    /// Notes that this is known of a rank; if memory for that is refused, nothing is noted.
     pub(crate) fn note(&mut self, rank: Rank)
         ensures most { (other : RankNumber) → Contains self.new.ranks.items other
             → Contains self.old.ranks.items other ⊎ (other ≡ rank) }
@@ -45,7 +46,7 @@ impl Settled {
         }
     }
 
-    /// It is known of none any more.
+    /// Nothing is known of any rank any more.
     pub(crate) fn forget(&mut self)
         ensures { self.new.ranks.items ≡ [] }
     {
@@ -53,7 +54,7 @@ impl Settled {
     }
 }
 
-/// Whether a step makes a subtree root or hands an authority on, whatever request it serves.
+/// Whether a step may make a subtree root or hand an authority on, whatever request it serves.
 #[inline(always)]
 pub(crate) fn may_unsettle(event: &Event) -> bool
     ensures calm { result ≡ false → IsCalm event.now }
@@ -80,8 +81,8 @@ pub(crate) fn may_unsettle(event: &Event) -> bool
     }
 }
 
-/// What is known stays, unless the step may have changed it, or an operation that was applied behind so many moves
-/// something or pins a directory.
+/// Forgets what is known if the step may have changed it: by its event, or by applying, behind so many entries, an
+/// operation that moves something or pins a directory.
 #[inline(always)]
 pub(crate) fn keep_settled(settled: &mut Settled, may: bool, history: &[Entry], past: usize)
     ensures { KeepsSettled settled.old.ranks.items settled.new.ranks.items may history.now past }
@@ -91,7 +92,7 @@ pub(crate) fn keep_settled(settled: &mut Settled, may: bool, history: &[Entry], 
     }
 }
 
-// Whether an operation that was applied behind so many moves something, or pins a directory.
+// Whether an operation that moves something or pins a directory was applied behind so many entries.
 #[inline(always)]
 fn has_unsettled(history: &[Entry], past: usize) -> bool
     ensures calm { result ≡ false → (before : List Applied) (e : Applied) → length before ≡ past

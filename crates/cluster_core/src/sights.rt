@@ -1,5 +1,5 @@
-//! What is read of a cluster to see why a step was refused: exports under way, requests that wait, grants, commits that
-//! were begun, cached fragments, and objects that are to be removed. No call takes memory.
+//! What explains a refusal: the exports, the waiting requests, the grants, the commits under way, the cached fragments,
+//! and the objects on the purge list. No call takes memory.
 ghost use Rattle.std.specs.Prelude.{◌≡◌, ◌↔◌, IsTrue, length, slice_get};
 ghost use Rattle.std.specs.Option.{option_copied};
 ghost use Rattle.inboxes.specs.Inboxes.{waiting_at, waiting_in_all};
@@ -14,22 +14,22 @@ use mds_types::{Frag, Ino, Rank, Request};
 use objstore::Store;
 
 impl<S: Store + Drop> Cluster<S> {
-    /// How many ranks there are: they are numbered from 0.
+    /// The number of ranks, which are numbered from 0.
     pub fn ranks(&self) -> usize
         ensures { result ≡ length self.now.state.inboxes }
     {
         self.waiting.inboxes.ranks()
     }
 
-    /// The exports that are under way, each with its ranks and its state.
+    /// The exports, each with its ranks and its state.
     pub fn exports(&self) -> &Exports
         ensures { result.now ≡ self.now.state.exports }
     {
         self.tree.exports()
     }
 
-    /// Whether a leaf lies in the region that another has once it is a subtree root: of a root, whether the leaf is in
-    /// its region.
+    /// Whether a leaf is in the region that another leaf has as a subtree root. If that leaf is a root, it is its
+    /// region.
     pub fn is_under(&self, root: &(Ino, Frag), leaf: &(Ino, Frag)) -> bool
         ensures { IsTrue result ↔ IsUnder self.now.state.roots self.now.state.tree.homes self.now.state.tree.covers
             root.now leaf.now }
@@ -58,28 +58,28 @@ impl<S: Store + Drop> Cluster<S> {
         self.waiting.inboxes.front(rank)
     }
 
-    /// The request in a rank's inbox with so many in front of it.
+    /// The request in a rank's inbox behind so many others.
     pub fn request(&self, rank: Rank, index: usize) -> Option<&Request>
         ensures { option_copied result ≡ slice_get (waiting_at self.now.state.inboxes rank) index }
     {
         self.waiting.inboxes.get(rank, index)
     }
 
-    /// The grants: each pins a leaf for a request that waits.
+    /// The grants: each is of a leaf, for a request that waits.
     pub fn grants(&self) -> &[Pin]
         ensures { result.now ≡ self.now.state.pins }
     {
         self.waiting.pins.as_slice()
     }
 
-    /// The commits that were begun and not ended.
+    /// The commits that have begun and not ended.
     pub fn jobs(&self) -> &StandingJobs
         ensures { result.now.jobs ≡ self.now.state.tree.jobs }
     {
         self.tree.jobs()
     }
 
-    /// The ranks' caches: which fragments a rank caches, in the order in which it used them, and which of them are
+    /// The ranks' caches: the fragments that a rank caches, in the order in which it used them, and which of them are
     /// clean.
     pub fn caches(&self) -> &Caches
         ensures { result.now ≡ self.now.caches }

@@ -1,4 +1,4 @@
--- What an attempt to save a cluster leaves of it.
+-- The cluster after an attempt to save it.
 use Rattle.std.specs.Prelude.{Result, Ok, Err}
 use Rattle.cold_store.specs.ColdTree.{IsColdTree}
 use Rattle.cluster_core.specs.Flush.{Flushes}
@@ -6,12 +6,12 @@ use Rattle.cluster_core.specs.State.{KeptState, shown}
 use Rattle.kept_book.specs.declared.saving.Unsaved.{Unsaved}
 use Rattle.kept_book.specs.declared.saving.Unsaved.TheVariants.{Refused, Unkept}
 
--- the book was flushed, so its objects have the tree that was shown, which is the tree after the history
+-- the book was flushed: its objects have the shown tree, which is the tree after the history
 pub record HasFlushed (old new : KeptState) : Type 0 where
   pub flushed : Flushes old new (Ok tt)
   pub cold : IsColdTree new.core.state.tree.objects (shown old.core.state)
 
--- so it was where it is saved, and where the file didn't take it; else the flush was refused
+-- the book was flushed if it is saved, and also if the file didn't keep it; otherwise the flush was refused
 abbrev pub Saves : {X : Type 0} → (old new : KeptState) → Result X Unsaved → Type 0
 Saves old new (Ok saved) = HasFlushed old new
 Saves old new (Err (Refused refusal)) = Flushes old new (Err refusal)

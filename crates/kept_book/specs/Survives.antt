@@ -1,4 +1,4 @@
--- What survives a crash, and what comes back after one.
+-- What a crash leaves, and what a store finds after one.
 use Rattle.std.specs.Prelude.{◌≡◌}
 use Rattle.mds_types.specs.Tree.{Tree}
 use Rattle.objstore.specs.Objects.{Objects}
@@ -24,9 +24,9 @@ pub record IsOnDisk (recovers : Trees → Type 0) (tree : Tree) : Type 0 where
   pub mounts : (db : Trees) → recovers db → MountShows db tree
   pub alone : (db : Trees) → recovers db → (other : Tree) → MountShows db other → other ≡ tree
 
--- a tree is the cold tree of what was found after a crash: where the disk was honest, these are objects that an outcome
--- of the crash spells, and just those that the store had, if nothing was noted: then their cold tree is back, which the
--- last flush left
+-- a tree is the cold tree of the objects found after a crash. If the disk was honest, an outcome of the crash spells
+-- these objects. If nothing was noted, they are the objects that the store had, and the tree is theirs, which the last
+-- flush left
 pub record ComesBack {T : Type 0} (view : T → View) (recovers : T → Trees → Type 0) (kept : KeptObjects T) (tree : Tree) : Type 0 where
   pub now : KeptObjects T
   pub all : now.noted ≡ none_noted

@@ -1,4 +1,4 @@
-//! A cluster comes back.
+//! A cluster after a crash.
 ghost use Rattle.std.specs.Prelude.{◌≡◌, ◌≤◌, [], IfOk};
 ghost use Rattle.cold_store.specs.ColdTree.{IsColdTree};
 ghost use Rattle.cluster_core.specs.Opening.{fresh};
@@ -15,8 +15,8 @@ use mds_types::{Limit, Refusal};
 use sqlite_trees::store::Reopen;
 use std::alloc::Global;
 
-/// What comes back of a store after a crash, with a cluster over it. Where nothing was noted and the disk is honest, its
-/// tree is the cold tree of the objects that the store had.
+/// Reopens a store after a crash, and mounts a cluster over it. If nothing was noted and the disk is honest, the tree
+/// is the cold tree of the objects that the store had.
 pub fn come_back<T: Reopen + Drop>(
     alloc: Global,
     kept: Kept<T>,

@@ -1,7 +1,7 @@
-//! A cluster over a store that is mirrored in tables: what a crash leaves of its tree, and what comes back. After a flush
-//! that was kept the tree after the history is on disk (`save`, `kept_of`); until the next one a crash leaves that tree,
-//! and while the next one is under way that tree or the new one (`a_crash_leaves_a_flush`); and what was left comes back
-//! as a cluster (`come_back`).
+//! A cluster over a store that is mirrored in tables: what a crash leaves of its tree, and how the cluster starts
+//! again. After a flush that was kept, the tree after the history is on disk (`save`, `kept_of`). Until the next flush
+//! a crash leaves that tree; during the next flush it leaves that tree or the new one (`a_crash_leaves_a_flush`). A
+//! cluster can be mounted from it (`come_back`).
 #![tactic(auto)]
 
 mod back;

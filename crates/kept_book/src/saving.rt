@@ -1,4 +1,4 @@
-//! The tree after the history is brought on disk.
+//! Saving the tree after the history on disk.
 ghost use Rattle.std.specs.Prelude.{◌≡◌, ◌++◌, List, IfOk, IfSome};
 ghost use Rattle.mds_types.specs.Tree.{Tree};
 ghost use Rattle.mds_types.specs.declared.entries.Entry.{Entry as Applied};
@@ -20,20 +20,20 @@ use std::snapshot::Snapshot;
 use std::thread::Threads;
 use thiserror::Error;
 
-/// Why a tree wasn't brought on disk.
+/// Why a tree isn't on disk.
 #[derive(Clone, Copy, Debug, PartialEq, Eq, Error)]
 pub enum Unsaved {
     /// The flush was refused.
     #[error("{0}")]
     Refused(Refusal),
-    /// The flush was done, and not kept. The next one that is kept brings it too.
+    /// The flush was done, but not kept. The next one that is kept keeps its content too.
     #[error("{0}")]
     Unkept(Unkept),
 }
 
-/// Flushes a cluster, and keeps what it wrote. Where it answers Ok, and the disk was honest, the tree after the history is
-/// on disk: whatever a crash leaves of the file from then on, a mount of it shows this tree and no other. The answer is
-/// the store at that moment, for contracts alone. Whatever it answers, the tree and the history are as they were.
+/// Flushes a cluster, and keeps what it wrote. After Ok, if the disk was honest, the tree after the history is on disk:
+/// a mount of whatever a crash leaves of the file from then on shows this tree and no other. The result is the store at
+/// that moment, for contracts alone. Whatever the result, the tree and the history are unchanged.
 pub fn save<T: Settle + Drop>(
     rt: &(impl Threads + Sync),
     alloc: Global,
@@ -59,9 +59,9 @@ pub fn save<T: Settle + Drop>(
     }
 }
 
-/// The store of a cluster, if its tables have all that the cluster wrote. Then, where the disk was honest, whatever a
-/// crash leaves spells the cluster's objects and no others; and if they have a cold tree, as after a flush, which leaves
-/// the tree after the history, that tree is on disk.
+/// The store of a cluster, if its tables have all that the cluster wrote. If the disk was honest, whatever a crash
+/// leaves then spells the cluster's objects and no others. If these have a cold tree, that tree is on disk. After a
+/// flush it is the tree after the history.
 pub fn kept_of<T: Trees + Drop>(book: &Book<Kept<T>>) -> Option<&Kept<T>>
     ensures survives { IfSome result (λ s. IsClean (T.Store.view s.now.tables)
         → Survives (T.Store.recovers s.now.tables) book.now.core.state.tree.objects) }

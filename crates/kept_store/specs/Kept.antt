@@ -1,4 +1,4 @@
--- What contracts see of a store that is mirrored in tables, and what holds of each.
+-- A store that is mirrored in tables, as contracts see it, and the law of every such store.
 use Rattle.std.specs.Prelude.{◌≡◌, IsTrue}
 use Rattle.objstore.specs.Objects.{Objects}
 use Rattle.sqlite_trees.specs.Tree.{Trees}
@@ -10,35 +10,35 @@ use Rattle.keeping.specs.declared.unkept.Unkept.TheVariants as told
 use Rattle.object_tables.specs.Noted.{Noted, has_key, has_name}
 use Rattle.object_tables.specs.Spelled.{HasTables, HaveOwners, SpellsObjects, SpellsBut}
 
--- the objects, the names and keys that changed since they were last brought into the tables, and the tables
+-- the objects; the names and keys that changed since they were last written into the tables; and the tables
 pub record KeptObjects (T : Type 0) : Type 0 where
   pub objects : Objects
   pub noted : Noted
   pub tables : T
 
--- tables on which a transaction may begin: they are there, as the last commit left them
+-- tables on which a transaction may begin: they exist, as the last commit left them
 pub record IsReady (v : View) : Type 0 where
   pub tables : HasTables v
   pub shapes : v.committed_shape ≡ v.shape
   pub fresh : v.trees ≡ v.committed
 
--- where the disk was honest: whatever a crash would leave of the tables now spells the objects, but for what was noted,
--- and has a row for each pair's object; while they are open they are ready
+-- the law, if the disk was honest: whatever a crash would leave of the tables now spells the objects, but for what was
+-- noted, and has a row for the object of each pair; while the tables are open they are ready
 pub record IsMirrored (v : View) (recovers : Trees → Type 0) (objects : Objects) (noted : Noted) : Type 0 where
   pub ready : IsTrue v.is_open → IsReady v
   pub outcomes : (db : Trees) → recovers db → SpellsBut db objects (has_name noted) (has_key noted)
   pub owners : (db : Trees) → recovers db → HaveOwners db
 
--- tables that can be taken as a mirror: they were just opened
+-- tables that can become a mirror: they were just opened
 pub record IsFreshMirror (v : View) : Type 0 where
   pub is_open : IsTrue v.is_open
   pub ready : IsReady v
 
--- one of these tables spells the objects
+-- an outcome of a crash spells the objects
 abbrev pub RecoversObjects : (Trees → Type 0) → Objects → Type 0
 RecoversObjects recovers objects = (db : Trees) × recovers db × SpellsObjects db objects
 
--- how an error of the tables is told
+-- the public form of an error of the tables
 abbrev pub unkept_of : StoreError → Unkept
 unkept_of OutOfMemory = told.NoMemory
 unkept_of Io = told.Io

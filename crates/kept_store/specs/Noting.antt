@@ -1,4 +1,4 @@
--- What is noted of a write.
+-- The notes of a write.
 use Rattle.std.specs.Prelude.{◌≡◌, ℕ, false, List}
 use Rattle.objstore.specs.Objects.{Objects, header_at}
 use Rattle.object_tables.specs.Noted.{Noted, has_key, has_name}

@@ -18,9 +18,9 @@ use sqlite_trees::store::{Reopen, Store as Trees};
 use std::alloc::Global;
 use std::marker::Model;
 
-/// A store of objects that is mirrored in tables: all objects in memory, from which each read is answered, the names and
-/// keys that changed since the last `keep`, and the tables, which have all but those. A write changes memory alone, so
-/// nothing but `keep` is slower than in a store in memory.
+/// A store of objects that is mirrored in tables. It has all objects in memory, which serve each read; the names and
+/// keys that changed since the last `keep`; and the tables, which have all but these changes. A write changes memory
+/// alone, so only `keep` is slower than in a store in memory.
 #[derive(Drop)]
 pub struct Kept<T: Trees + Drop> {
     objects: MemStore,
@@ -45,8 +45,8 @@ impl<T: Trees + Drop> Model for Kept<T> {
 }
 
 impl<T: Trees + Drop> Kept<T> {
-    /// Reads the objects out of tables that were just opened. The tables come back where they don't spell objects, or
-    /// can't be read. Takes memory for all of them.
+    /// Reads all objects out of tables that were just opened. Returns the tables if they don't spell objects or can't
+    /// be read. Takes memory for the objects.
     pub fn open(alloc: Global, mut tables: T) -> Result<Kept<T>, (ReadFault, T)>
         requires { IsClean (T.Store.view tables) → IsFreshMirror (T.Store.view tables) }
         ensures objects { IfOk result (λ k. IsClean (T.Store.view k.tables) → SpellsObjects (T.Store.view tables).committed k.objects) }
@@ -71,7 +71,7 @@ impl<T: Trees + Drop> Kept<T> {
         &self.objects
     }
 
-    /// Whether the tables have all objects as they are.
+    /// Whether the tables have all objects as they are now.
     pub fn is_kept(&self) -> bool
         ensures kept { IsTrue result ↔ (self.now.noted ≡ none_noted) }
         ensures outcomes { IsTrue result → IsClean (T.Store.view self.now.tables)
@@ -80,16 +80,16 @@ impl<T: Trees + Drop> Kept<T> {
         self.changes.is_empty()
     }
 
-    /// Of how many objects something changed since the last `keep` that answered Ok.
+    /// The number of objects that changed since the last `keep` that returned Ok.
     pub fn changed(&self) -> usize
         ensures { result ≡ map.len self.now.noted.names }
     {
         self.changes.len()
     }
 
-    /// Brings what changed into the tables, in one transaction. Whatever it answers, and wherever it is cut off, a crash
-    /// leaves what it could leave before, or tables that spell exactly the objects. Where it fails, what was noted stays
-    /// noted, so that the next call brings it too; tables that are shut take nothing any more.
+    /// Writes all changes into the tables, in one transaction. Whatever it returns, and wherever it is cut off, a crash
+    /// leaves what it could leave before, or tables that spell exactly the objects. If it fails, the changes stay
+    /// noted, and the next call writes them too. Tables that are shut accept no more changes.
     pub fn keep(&mut self) -> Result<(), StoreError>
         ensures kept { OnOk result (self.new.noted ≡ none_noted) }
         ensures noted { OnErr result (self.new.noted ≡ self.old.noted) }
@@ -106,7 +106,7 @@ impl<T: Trees + Drop> Kept<T> {
         Ok(())
     }
 
-    /// What always holds: a law, told of this store.
+    /// The law of every kept store, told of this one.
     pub fn is_mirrored(&self)
         ensures { IsClean (T.Store.view self.now.tables)
             → IsMirrored (T.Store.view self.now.tables) (T.Store.recovers self.now.tables) self.now.objects self.now.noted }
@@ -129,7 +129,7 @@ impl<T: Trees + Drop> Kept<T> {
 }
 
 impl<T: Settle + Drop> Kept<T> {
-    /// Leaves what was kept whole in one place, as a file whose log is empty. A crash leaves nothing that it couldn't
+    /// Gathers all that was kept in one place, such as a file whose log is empty. A crash leaves only what it could
     /// leave before.
     pub fn settle(&mut self) -> Result<(), StoreError>
         ensures objects { self.new.objects ≡ self.old.objects }
@@ -142,8 +142,8 @@ impl<T: Settle + Drop> Kept<T> {
 }
 
 impl<T: Reopen + Drop> Kept<T> {
-    /// What comes back after a crash, over a disk that can be made to crash: the objects that one of its outcomes
-    /// spells. If nothing was noted, these are just the objects that were there.
+    /// Reopens the store after a crash, over a disk that can be made to crash. The objects are those that one of the
+    /// crash's outcomes spells. If nothing was noted, they are exactly the objects from before.
     pub fn revive(self, alloc: Global) -> Result<Kept<T>, ReadFault>
         ensures found { IfOk result (λ k. IsClean (T.Store.view k.tables) → RecoversObjects (T.Store.recovers self.tables) k.objects) }
         ensures back { IfOk result (λ k. IsClean (T.Store.view k.tables) → self.noted ≡ none_noted → k.objects ≡ self.objects) }
@@ -167,7 +167,7 @@ impl<T: Trees + Drop> Store for Kept<T> {
 
     ghost faults = { λ _. 0 };
 
-    // No call but `keep` and `settle` touches the tables.
+    // Only `keep` and `settle` change the tables.
     ghost IsCall = { λ old _ new. new.tables ≡ old.tables };
 
     fn header(&mut self, alloc: Global, name: &str) -> Result<Option<Bytes>, Refusal> {
@@ -232,8 +232,8 @@ impl<T: Settle + Drop> Keep for Kept<T> {
     }
 }
 
-// How the error of the tables is told. Broken ones are shut: each failure of `save` is rolled back, so only those that
-// another open must mend are broken. A row of over a billion bytes finds no room.
+// The public form of an error of the tables. Broken tables are reported as shut: each failed `save` is rolled back, so
+// tables are broken only if another open must mend them. A row of over a billion bytes is reported as full.
 fn unkept(error: StoreError) -> Unkept
     ensures { result ≡ unkept_of error }
 {

@@ -1,5 +1,5 @@
-//! A store of objects that outlives the process: objects in memory, from which all is read, the names and keys that
-//! changed, and tables that mirror them.
+//! A store of objects that outlives the process. It has the objects in memory, which serve all reads; the names and
+//! keys that changed; and tables that mirror the objects.
 #![tactic(auto)]
 
 mod kept;

@@ -1,4 +1,4 @@
-//! What a write may change.
+//! Noting what a write may change.
 ghost use Rattle.std.specs.Prelude.{◌≡◌, true, ℕ, List, is_some, OnOk};
 ghost use Rattle.std.specs.FinMap as map;
 ghost use Rattle.objstore.specs.Objects.{written};
@@ -10,8 +10,8 @@ use object_tables::Changes;
 use objstore::{KeySet, MemStore, Pairs, WriteOp};
 use std::alloc::{AllocError, Global};
 
-/// Notes all that an operation may change in the object of this name: its name, the keys that are set and those that are
-/// removed; and all its keys, where it is cleared.
+/// Notes all that an operation may change in the object of this name: its name, the keys that it sets and those that it
+/// removes, and all keys if it clears the object.
 pub fn note_write(
     changes: &mut Changes,
     alloc: Global,
@@ -30,7 +30,7 @@ pub fn note_write(
     note_keys(changes, alloc, name, &op.remove)
 }
 
-/// Notes the object of this name, with all that it has.
+/// Notes the object of this name, with all its keys.
 pub fn note_object(
     changes: &mut Changes,
     alloc: Global,
@@ -44,7 +44,7 @@ pub fn note_object(
     note_all(changes, alloc, objects, name)
 }
 
-// Notes all that the object of this name has.
+// Notes all keys of the object of this name.
 fn note_all(
     changes: &mut Changes,
     alloc: Global,

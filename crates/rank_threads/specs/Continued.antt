@@ -1,4 +1,4 @@
--- What a run makes of a book, be it successful or not.
+-- How the book that a run returns goes on from the one handed in, whether the run succeeds or fails.
 use Rattle.std.specs.Prelude.{◌≡◌, List}
 use Rattle.mds_types.specs.declared.entries.Entry.{Entry}
 use Rattle.cluster_core.specs.Opening.{Opening}
@@ -6,13 +6,13 @@ use Rattle.cluster_core.specs.Runs.{GoesOnFrom}
 use Rattle.cluster_core.specs.Sound.{StandsBehind, IsSoundKept}
 use Rattle.cluster_core.specs.State.{KeptState}
 
--- each opening tree and past that the one book goes on from, the other goes on from too
+-- the new book goes on from each opening tree and past that the old one goes on from
 abbrev pub StaysBehind : (old new : KeptState) → Type 0
 StaysBehind old new =
     (opening : Opening) (past : List Entry) → StandsBehind opening past old → StandsBehind opening past new
 
--- a sound book that goes on from each opening tree and past that the other one went on from, and whose history begins
--- with that one's; no entry was forgotten in between
+-- the new book is sound; it goes on from each opening tree and past that the old one goes on from; its history begins
+-- with the old one's; and no entry was forgotten in between
 pub record Continues (old new : KeptState) : Type 0 where
   pub sound : IsSoundKept new
   pub goes_on : StaysBehind old new

@@ -1,4 +1,4 @@
--- What is asked of a run on many threads, and what the lock of its book keeps of that.
+-- The requests that a run on many threads is asked, and what its book keeps of them.
 use Rattle.std.specs.Prelude.{◌≡◌, ℕ, List, [], Contains, drop, flat_map, length}
 use Rattle.std.specs.List.{AllByRecursion}
 use Rattle.mds_types.specs.declared.entries.Entry.{Entry}
@@ -15,19 +15,19 @@ turn_arrival (Commit ino frag) = []
 turn_arrival Own = []
 turn_arrival (Keep ino frag bytes) = []
 
--- those that the turns of a plan bring, and those of all plans
+-- the requests that the turns of a plan bring, and those of all plans
 abbrev pub plan_arrivals : List Turn → List Request
 plan_arrivals turns = flat_map turn_arrival turns
 
 abbrev pub plans_arrivals : List (List Turn) → List Request
 plans_arrivals plans = flat_map plan_arrivals plans
 
--- each request that a plan brings is one of these
+-- each request that a plan brings is among those sent
 abbrev pub EachIsSent : List Request → List (List Turn) → Type 0
 EachIsSent sent plans = AllByRecursion (λ turns. AllByRecursion (Contains sent) (plan_arrivals turns)) plans
 
--- a book of this limit serves these requests, behind the history that was handed in: what was applied since then, and
--- what waits, is of them
+-- a book of this limit serves these requests, behind the history that was handed in: each request that was applied
+-- since then, and each that waits, is one of them
 pub record Serves (limit : ℕ) (sent : List Request) (begun : List Entry) (book : KeptState) : Type 0 where
   pub limited : book.core.state.tree.limit ≡ limit
   pub asked : AllByRecursion (IsSent sent) (drop (length begun) book.history)

@@ -1,4 +1,4 @@
--- What the turns of a plan give.
+-- The results of the turns of plans.
 use Rattle.std.specs.Prelude.{◌≡◌, ◌+◌, ℕ, List, [], ◌∷◌, ◌++◌, length, map, vec_items, Result, Ok, Err}
 use Rattle.std.specs.Global.{Vec}
 use Rattle.mds_types.specs.declared.refusals.Refusal.{Refusal}
@@ -9,7 +9,7 @@ use Rattle.cluster_core.specs.OneThread.{first_places, receipt_of, receipts_of}
 use Rattle.rank_threads.specs.declared.plans.Turn.{Turn}
 use Rattle.rank_threads.specs.declared.plans.Turn.TheVariants.{Step, Commit, Own, Keep}
 
--- a commit's turn, a rank's own, and one that keeps bytes stand as Nothing or a refusal
+-- a commit's turn, a rank's own turn, and a turn that keeps bytes have the result Nothing or a refusal
 abbrev pub FitsTurn : Turn → Result Answer Refusal → Type 0
 FitsTurn (Step event) result = Unit {0}
 FitsTurn (Commit ino frag) (Ok answer) = answer ≡ Nothing
@@ -33,7 +33,7 @@ PlansAnswered [] (results ∷ more) = ⊥
 PlansAnswered (turns ∷ plans) [] = ⊥
 PlansAnswered (turns ∷ plans) (results ∷ more) = AreAnswered turns results × PlansAnswered plans more
 
--- the lists that are kept in vectors
+-- vectors as lists
 abbrev pub lists_of : {A : Type 0} → List (Vec A) → List (List A)
 lists_of vectors = map vec_items vectors
 
@@ -42,7 +42,7 @@ abbrev pub receipts_of_all : List (List (Result Answer Refusal)) → List Receip
 receipts_of_all [] = []
 receipts_of_all (results ∷ more) = receipts_of results ++ receipts_of_all more
 
--- how many replies among them were first ones
+-- the number of first replies in a result, and in the results of a plan
 abbrev pub first_in : Result Answer Refusal → ℕ
 first_in result = length (first_places (receipt_of result))
 
@@ -50,7 +50,7 @@ abbrev pub firsts : List (Result Answer Refusal) → ℕ
 firsts [] = 0
 firsts (result ∷ results) = first_in result + firsts results
 
--- in all plans
+-- the number of first replies in all plans
 abbrev pub firsts_of_all : List (List (Result Answer Refusal)) → ℕ
 firsts_of_all [] = 0
 firsts_of_all (results ∷ more) = firsts results + firsts_of_all more

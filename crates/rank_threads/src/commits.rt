@@ -1,4 +1,4 @@
-//! Commits that are ended.
+//! Ending the commits whose jobs the workers encode.
 
 use crate::desks::{Desk, Handed};
 use crate::locking::lock;
@@ -10,16 +10,16 @@ use objstore::Store;
 use std::alloc::Global;
 use std::sync::{Mutex, Wait};
 
-/// The number of a job that was handed to the workers, and how its commit ended: as the event that ends it was
-/// answered, or as its encoding failed.
+/// The number of a job that was handed to the workers, and how its commit ended. An error is the refusal of the event
+/// that ends the commit, or the reason why its encoding failed.
 #[derive(Debug, Drop)]
 pub struct Commit {
     pub job: u64,
     pub ended: Result<(), Refusal>,
 }
 
-/// Ends the commits whose results come, until no more can come, and lists them in the order taken. Answers whether
-/// there was memory to list them all.
+/// Ends the commit of each result that the workers send, until the channel closes, and lists these commits in the order
+/// in which they ended. Returns false if there was no memory to list them all.
 pub(crate) fn end_all<S: Store + Drop, L: Handed, R: Wait>(
     rt: &R,
     alloc: Global,
@@ -37,7 +37,7 @@ pub(crate) fn end_all<S: Store + Drop, L: Handed, R: Wait>(
     listed
 }
 
-// Ends one commit.
+// Ends one commit, or gives it up where its encoding failed.
 fn end<S: Store + Drop, L: Handed, R: Wait>(
     rt: &R,
     alloc: Global,
@@ -56,7 +56,7 @@ fn end<S: Store + Drop, L: Handed, R: Wait>(
     }
 }
 
-// Ends the commit of what was encoded. It is given up where that is refused, unless no such job stands.
+// Ends the commit of an encoded job. Where that is refused, the commit is given up, unless there is no such job.
 fn end_encoded<S: Store + Drop, L: Handed, R: Wait>(
     rt: &R,
     alloc: Global,

@@ -1,4 +1,4 @@
-//! What lies under the lock.
+//! The book and its count of shares, which one lock guards.
 ghost use Rattle.std.specs.Prelude.{Result, None, ◌≡◌, ◌+◌, ◌<◌, ◌++◌, List, [], Contains, cond, length, take};
 ghost use Rattle.std.specs.List.{AllByRecursion};
 ghost use Rattle.std.specs.Coded.{codes};
@@ -25,12 +25,12 @@ use std::marker::Brand;
 use std::sync::ledger;
 use std::sync::ledger::{Ledger, Share};
 
-/// What a run was handed. Each call of a run picks its own.
+/// The ledger of a run, which knows what the run was handed. Each call of a run picks its own.
 pub trait Handed: Ledger {
-    /// The book that it was handed.
+    /// The book that the run was handed.
     ghost first: { KeptState };
 
-    /// The requests that waited in it, and those that the turns of the plans bring.
+    /// The requests that waited in that book, and those that the turns of the plans bring.
     ghost sent: { List Asked };
 }
 
@@ -44,9 +44,10 @@ impl Handed for Brand {
     ghost sent = { [] };
 }
 
-/// The book, with the total of all shares: as many as the history has places. The book goes on from whatever the one that
-/// was handed in went on from, and its history begins with that one's, of which no entry was forgotten; what was applied
-/// since, and what waits, is of the requests that were sent.
+/// The book, with the total of all shares, which is the number of places of the history. Whatever opening tree and past
+/// the book handed in goes on from, this one goes on from too. Its history begins with the history handed in, of which
+/// no entry was forgotten. Each request that was applied since then, and each that waits, is one of those that were
+/// sent.
 #[derive(Drop)]
 pub(crate) struct Desk<S: Store + Drop, L: Handed> {
     pub(crate) book: Book<S>,
@@ -60,8 +61,8 @@ pub(crate) struct Desk<S: Store + Drop, L: Handed> {
 }
 
 impl<S: Store + Drop, L: Handed> Desk<S, L> {
-    /// One step of the book, of an event whose request, if it brings one, was sent. The share rises by one where the step
-    /// adds an entry to the history, and a reply that is handed out was asked for.
+    /// Makes one step of the book, for an event whose request, if it brings one, was sent. The share rises by one if
+    /// the step adds an entry to the history. A reply that the step hands out was asked for.
     #[tactic(auto, using(crate::proofs::StepLaws::counts_on, crate::proofs::StepLaws::made_step))]
     pub(crate) fn step(
         &mut self,
@@ -87,7 +88,8 @@ impl<S: Store + Drop, L: Handed> Desk<S, L> {
         answer
     }
 
-    /// A commit of a leaf begins at a rank: its job, unless the leaf is clean. The history stays.
+    /// Begins a commit of a leaf at a rank, and returns its job, or none if the leaf is clean. The history doesn't
+    /// change.
     #[tactic(auto, using(crate::proofs::StepLaws::made_step))]
     pub(crate) fn begin(
         &mut self,
@@ -115,7 +117,7 @@ impl<S: Store + Drop, L: Handed> Desk<S, L> {
         }
     }
 
-    /// The commit of what was encoded ends. The history stays.
+    /// Ends the commit of an encoded job. The history doesn't change.
     #[tactic(auto, using(crate::proofs::StepLaws::made_step))]
     pub(crate) fn end(&mut self, alloc: Global, encoded: Encoded) -> Result<(), Refusal>
         ensures { (opening : Opening) (past : List Applied) → StandsBehind opening past self.old.book
@@ -126,7 +128,7 @@ impl<S: Store + Drop, L: Handed> Desk<S, L> {
         done(self.book.step(alloc, Event::CommitEnd(encoded)))
     }
 
-    /// A commit is given up. The history stays.
+    /// Gives a commit up. The history doesn't change.
     #[tactic(auto, using(crate::proofs::StepLaws::made_step))]
     pub(crate) fn give_up(&mut self, alloc: Global, job: u64)
         ensures { (came : Result Answer Refusal) × MadeStep (CommitDrop job) came }
@@ -135,7 +137,7 @@ impl<S: Store + Drop, L: Handed> Desk<S, L> {
         let _ = self.book.step(alloc, Event::CommitDrop { job });
     }
 
-    /// The book, where shares were lost.
+    /// Returns the book, also where shares were lost.
     #[tactic(auto, using(crate::proofs::StepLaws::continued))]
     pub(crate) fn close(self) -> Book<S>
         ensures { Continues L.first result }
@@ -145,7 +147,7 @@ impl<S: Store + Drop, L: Handed> Desk<S, L> {
         book
     }
 
-    /// The book, once all shares are gathered: its history has as many places as they say.
+    /// Returns the book once all shares are gathered. Its history has as many places as the shares count.
     #[tactic(auto, using(crate::proofs::StepLaws::continued, crate::proofs::Found::kept_serves))]
     pub(crate) fn settle(self, all: &mut Share<L>) -> Book<S>
         requires { all.old.parts ≡ L.parts }
@@ -164,7 +166,7 @@ impl<S: Store + Drop, L: Handed> Desk<S, L> {
     }
 }
 
-// That a step was made, or why it was refused.
+// Whether a step was made, or why it was refused.
 fn done(came: Result<Answer, Refusal>) -> Result<(), Refusal>
     ensures { result ≡ done_of came }
 {

@@ -1,8 +1,8 @@
-//! Where a caller may hold threads up.
+//! Where a caller may watch or delay a run's threads.
 
 use mds_types::Rank;
 
-/// What a run's threads call with no lock held, to be watched or held up.
+/// Calls that a run's threads make with no lock held, so that a caller can watch or delay them.
 pub trait Gate: Sync {
     /// A worker is about to encode the job of this number.
     fn encoding(&self, job: u64);
@@ -14,7 +14,7 @@ pub trait Gate: Sync {
     fn moved(&self, rank: Rank);
 }
 
-/// Holds no thread up.
+/// A gate that delays no thread.
 #[derive(Clone, Copy, Debug)]
 pub struct OpenGate;
 

@@ -1,6 +1,6 @@
-//! Rank threads: several threads work on one book under one lock, one for each rank, and workers encode what is
-//! committed with no lock held. Whatever the schedule was, a run that succeeds gives a book whose history replays and
-//! begins with the one handed in, and the replies that its threads were given agree with that history.
+//! Rank threads. One thread for each rank works on one book under one lock, and workers encode commits with no lock
+//! held. Whatever the schedule was, a run that succeeds gives a book whose history replays and begins with the history
+//! handed in, and the replies that its threads were given agree with that history.
 #![tactic(auto)]
 
 mod commits;

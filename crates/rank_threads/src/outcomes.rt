@@ -1,4 +1,4 @@
-//! What a run gives, or why it gave nothing.
+//! What a run gives, or why it gives nothing.
 ghost use Rattle.std.specs.Prelude.{◌≡◌};
 ghost use Rattle.rank_threads.specs.Faults.{run_fault_number};
 
@@ -15,16 +15,17 @@ pub struct Outcome<S: Store + Drop> {
     pub book: Book<S>,
     /// For each plan the results of its turns, in their order.
     pub answers: Vec<Vec<Result<Answer, Refusal>>>,
-    /// For each plan the bytes that its thread keeps still, each under the root of its export: what was sent, and not
+    /// For each plan the bytes that its thread still keeps, each under the root of its export: they were sent and not
     /// imported.
     pub kept: Vec<KeptBytes>,
     /// The replies among the answers.
     pub receipts: Vec<Receipt>,
-    /// How each commit ended that was handed to the workers, in the order in which that was done.
+    /// How each commit that was handed to the workers ended, in the order in which they ended.
     pub commits: Vec<Commit>,
 }
 
-/// A run that gave no outcome, with its book. What its threads kept of exports the book tells anew: `Cluster::sent_bytes`.
+/// A run that gave no outcome, with its book. `Cluster::sent_bytes` returns the bytes of exports again that its threads
+/// kept.
 #[derive(Drop)]
 pub struct RunError<S: Store + Drop> {
     pub fault: RunFault,
@@ -35,14 +36,14 @@ pub struct RunError<S: Store + Drop> {
 /// Why a run gave no outcome.
 #[derive(Clone, Copy, Debug, PartialEq, Eq, Error)]
 pub enum RunFault {
-    /// A growth was refused.
+    /// Memory was refused.
     #[error("out of memory")]
     NoMemory,
-    /// A thread could not be made.
+    /// A thread couldn't be made.
     #[error("a thread can't be made")]
     Spawn,
-    /// The history does not hold a reply at its place, or two requests were told that they were applied at one place,
-    /// or at an older one; or the entry of a reply that was handed out again was forgotten before the run.
+    /// The history doesn't hold a reply at its place; or two requests were told that they were applied at one place, or
+    /// one was told an older place; or the entry of a reply that was handed out again was forgotten before the run.
     #[error("replies don't agree with the history")]
     Strayed,
 }

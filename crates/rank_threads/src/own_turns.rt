@@ -1,4 +1,4 @@
-//! The steps that a rank makes of its own.
+//! The steps that a rank proposes and makes itself.
 ghost use Rattle.std.specs.Prelude.{◌≡◌, List, Ok, Some};
 ghost use Rattle.std.specs.FinMap as map;
 ghost use Rattle.cluster_core.specs.declared.events.Event.TheVariants.{Send};
@@ -17,7 +17,8 @@ use mds_types::{Bytes, Frag, Ino, Rank, Refusal};
 use objstore::Store;
 use std::alloc::Global;
 
-/// The rank whose turns a thread works off, with the bytes that its exports sent, between their Send and their Import.
+/// The rank whose turns a thread makes. It keeps the bytes that the rank's exports sent, from their Send to their
+/// Import.
 #[derive(Drop)]
 pub(crate) struct OwnTurns {
     pub(crate) rank: Rank,
@@ -49,9 +50,8 @@ impl OwnTurns {
 }
 
 impl<S: Store + Drop, L: Handed> Desk<S, L> {
-    /// A rank proposes a step of its own, and makes it, if there is one. An Import is given the bytes that the rank's
-    /// thread keeps; one whose bytes aren't kept there is passed over. The history stays. Answers whether a step was
-    /// made.
+    /// A rank proposes a step of its own and makes it. An Import gets the bytes that the rank's thread keeps; if the
+    /// thread doesn't keep them, no step is made. The history doesn't change. Returns whether a step was made.
     #[tactic(auto, using(crate::proofs::OwnTurnLaws::took_behind))]
     pub(crate) fn own(&mut self, alloc: Global, own: &mut OwnTurns) -> Result<bool, Refusal>
         ensures rank { own.new.rank ≡ own.old.rank }
@@ -87,8 +87,8 @@ impl<S: Store + Drop, L: Handed> Desk<S, L> {
         }
     }
 
-    // An export is sent, and what it hands over is kept. Room for it comes first: once it is sent, nothing but its
-    // Import ends it.
+    // Makes a Send and keeps the bytes that it hands out. Room for them is reserved first, since after the Send nothing
+    // but its Import ends the export.
     #[tactic(auto, using(crate::proofs::OwnTurnLaws::sent_nothing, crate::proofs::StepLaws::made_step))]
     fn send(
         &mut self,
@@ -118,8 +118,7 @@ impl<S: Store + Drop, L: Handed> Desk<S, L> {
         }
     }
 
-    // An export is imported, if its bytes are kept. The importer is given a copy, since an Import that is refused has
-    // eaten its bytes.
+    // Makes an Import if its bytes are kept. It gets a copy of them, since a refused Import consumes its bytes.
     #[tactic(auto, using(crate::proofs::OwnTurnLaws::passed_over, crate::proofs::OwnTurnLaws::not_copied, crate::proofs::OwnTurnLaws::imported, crate::proofs::StepLaws::made_step))]
     fn import(
         &mut self,
@@ -150,7 +149,7 @@ impl<S: Store + Drop, L: Handed> Desk<S, L> {
     }
 }
 
-// That a step was made, or why it was refused.
+// Whether a step was made, or why it was refused.
 fn made(came: Result<Answer, Refusal>) -> Result<bool, Refusal>
     ensures { result ≡ answer_of came }
 {

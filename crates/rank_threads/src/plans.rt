@@ -1,4 +1,4 @@
-//! What a rank's thread is to do.
+//! The plan of a rank's thread.
 
 use cluster_core::Event;
 use mds_types::{Bytes, Frag, Ino};
@@ -8,10 +8,10 @@ use mds_types::{Bytes, Frag, Ino};
 pub enum Turn {
     /// One step of the book.
     Step(Event),
-    /// A commit of a leaf begins at the thread's own rank, and its job goes to the workers.
+    /// Begins a commit of a leaf at the thread's own rank, and hands its job to the workers.
     Commit { ino: Ino, frag: Frag },
-    /// The thread's own rank proposes a step, and makes it.
+    /// Makes the step that the thread's own rank proposes.
     Own,
-    /// The thread keeps the bytes of an export that was sent before the run, for the Import of a turn of its own.
+    /// Keeps the bytes of an export that was sent before the run, for an Import in a later turn of this thread.
     Keep { ino: Ino, frag: Frag, bytes: Bytes },
 }

@@ -1,4 +1,4 @@
-//! What a run needs, made before its first lock.
+//! The memory that a run takes before its first lock.
 ghost use Rattle.std.specs.Prelude.{◌≡◌, ◌+◌, ◌<◌, ◌≤◌, [], Contains, IfOk, map, vec_len};
 ghost use Rattle.std.specs.List.{AllByRecursion};
 ghost use Rattle.rank_threads.specs.Sent.{EachIsSent, plan_arrivals};
@@ -17,14 +17,15 @@ use mds_types::Rank;
 use std::alloc::{AllocError, Global};
 use std::sync::ledger::Share;
 
-/// What a worker is handed: where jobs come from, and where results go.
+/// The channel ends of a worker: it receives jobs and sends results.
 #[derive(Drop)]
 pub(crate) struct Ends {
     pub(crate) jobs: Receiver<Job>,
     pub(crate) results: Sender<Finished>,
 }
 
-/// All that a run needs. It keeps no sending end but those of its plans and workers, so each channel ends with them.
+/// All that a run needs. Only the plans and the workers have sending ends, so each channel closes once these are
+/// dropped.
 #[derive(Drop)]
 pub(crate) struct Needs<L: Handed> {
     pub(crate) starts: Starts<L>,
@@ -33,18 +34,18 @@ pub(crate) struct Needs<L: Handed> {
     pub(crate) answers: Vec<Vec<Answered>>,
     pub(crate) kept: Vec<KeptBytes>,
     pub(crate) commits: Vec<Commit>,
-    /// What the plans leave of the share.
+    /// The rest of the share, which no plan took.
     pub(crate) all: Share<L>,
 }
 
-/// The plans of the ranks' threads, and room for a handle of each.
+/// The plans of the ranks' threads, and room for a handle of each thread.
 #[derive(Drop)]
 pub(crate) struct Starts<L: Handed> {
     pub(crate) plans: Vec<Plan<L>>,
     pub(crate) handles: Vec<Working<L>>,
 }
 
-/// All that a run needs: a plan for each list of turns, which takes a part of the share, and room for all results.
+/// Makes all that a run needs: a plan for each list of turns, each with a part of the share, and room for all results.
 pub(crate) fn prepare<L: Handed>(
     alloc: Global,
     lists: Vec<Vec<Turn>>,
@@ -83,7 +84,7 @@ pub(crate) fn prepare<L: Handed>(
     })
 }
 
-// A plan for each list of turns, in the order of ranks, with a part of the share each.
+// Makes a plan for each list of turns, in the order of ranks, each with a part of the share.
 #[tactic(auto, using(crate::proofs::TookLaws::ranked_push))]
 fn plans_of<L: Handed>(
     alloc: Global,
@@ -134,7 +135,7 @@ fn plan_of<L: Handed>(
     })
 }
 
-// Ends of both channels for each worker.
+// The channel ends of each worker.
 fn ends_of(
     alloc: Global,
     workers: u8,

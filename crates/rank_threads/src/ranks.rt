@@ -1,4 +1,4 @@
-//! The threads of ranks.
+//! The threads that make the turns of ranks.
 ghost use Rattle.std.specs.Prelude.{◌≡◌, ◌+◌, ◌<◌, ◌≤◌, ◌++◌, ◌∷◌, [], Contains, IfSome, Ok, Some, vec_len, vec_capacity};
 ghost use Rattle.std.specs.List.{AllByRecursion};
 ghost use Rattle.cluster_core.specs.OneThread.{IsAskedFor, receipt_of, receipts_of};
@@ -26,8 +26,8 @@ use std::thread::{Promise, PromisedHandle, Scope, Threads};
 /// What a turn gave.
 pub(crate) type Answered = Result<Answer, Refusal>;
 
-/// What a rank's thread is handed: its turns, of which each request was sent, room for a result of each, an end of the
-/// channel of jobs, and its share.
+/// What a rank's thread is handed: its turns, whose requests were all sent; room for the result of each; a sending end
+/// of the channel of jobs; and its share.
 #[derive(Drop)]
 pub(crate) struct Plan<L: Handed> {
     pub(crate) rank: Rank,
@@ -42,8 +42,8 @@ pub(crate) struct Plan<L: Handed> {
     pub(crate) ghost sent: { ∥ AllByRecursion (Contains L.sent) (plan_arrivals turns.items) ∥₁ },
 }
 
-/// What a rank's thread hands back: a result for each turn, of which each reply was asked for; the bytes that it keeps
-/// still; and its share, which counts the first replies among the results.
+/// What a rank's thread hands back: a result for each turn, whose replies were all asked for; the bytes of exports that
+/// it still keeps; and its share, which counts the first replies among the results.
 #[derive(Drop)]
 pub(crate) struct Work<L: Handed> {
     pub(crate) answers: Vec<Answered>,
@@ -54,7 +54,7 @@ pub(crate) struct Work<L: Handed> {
     pub(crate) ghost asked_for: { ∥ AllByRecursion (IsAskedFor L.sent) (receipts_of answers.items) ∥₁ },
 }
 
-/// What a rank's thread has of its own while it works: the steps that its rank makes by itself, an end of the channel
+/// What a rank's thread has of its own while it works: the steps that its rank proposes, a sending end of the channel
 /// of jobs, and its share.
 #[derive(Drop)]
 struct Mine<L: Handed> {
@@ -63,7 +63,8 @@ struct Mine<L: Handed> {
     share: Share<L>,
 }
 
-/// That work is that of these turns at this rank: it has a result for each, and keeps what they left.
+/// The promise of a thread: its work has a result for each of these turns at this rank, and keeps the bytes that they
+/// left.
 #[derive(Drop)]
 pub(crate) struct Answers {
     rank: Rank,
@@ -75,10 +76,10 @@ impl<L: Handed> Promise<Work<L>> for Answers {
         × TookTurns p.rank map.empty w.kept.bytes p.turns.value.items w.answers.items };
 }
 
-/// A thread that works off a plan.
+/// The handle of a thread that works on a plan.
 pub(crate) type Working<L> = PromisedHandle<Work<L>, Answers>;
 
-/// Starts a thread for a plan; none, where none can be made.
+/// Starts a thread for a plan. Returns none if the thread can't be made.
 pub(crate) fn start<'s, E, S, L, G, R>(
     scope: &Scope<'s, E>,
     rt: &'s R,
@@ -104,7 +105,7 @@ where
         .ok()
 }
 
-// Works off a plan, and takes the lock anew for each turn. No bytes of an export are kept before its first one.
+// Makes the turns of a plan, and takes the lock once for each. No bytes of exports are kept before the first turn.
 #[tactic(auto, using(crate::proofs::TurnLaws::answered_more, crate::proofs::TookLaws::took_more, crate::proofs::TurnLaws::firsts_more, crate::proofs::AskedLaws::first_brings, crate::proofs::AskedLaws::rest_brings, crate::proofs::AskedLaws::asked_more))]
 fn work_off<S: Store + Drop, L: Handed, G: Gate, R: Wait>(
     rt: &R,
@@ -137,7 +138,8 @@ fn work_off<S: Store + Drop, L: Handed, G: Gate, R: Wait>(
     finished(answers, own.kept, share)
 }
 
-// The work that was done. A function of its own, since one with a loop loses what a struct's fields keep.
+// The work that was done. It is a function of its own, since in a function with a loop the prover loses the promises of
+// a struct's fields.
 fn finished<L: Handed>(answers: Vec<Answered>, kept: KeptBytes, share: Share<L>) -> Work<L>
     requires one { share.parts ≡ 1 }
     requires counted { share.amount ≡ firsts answers.items }
@@ -162,7 +164,7 @@ fn put(answers: &mut Vec<Answered>, newest: Answered)
     let _ = answers.push(newest);
 }
 
-// One turn.
+// Makes one turn.
 #[tactic(auto, using(crate::proofs::OwnTurnLaws::keep_told))]
 fn take_turn<S: Store + Drop, L: Handed, G: Gate, R: Wait>(
     rt: &R,
@@ -202,7 +204,7 @@ fn take_turn<S: Store + Drop, L: Handed, G: Gate, R: Wait>(
             }
         }
         Turn::Own => {
-            // the lock is let go before the gate is told
+            // the lock is released before the gate is told
             let made = lock(desk, rt).own(alloc, &mut mine.own);
             match made {
                 Ok(true) => {
@@ -230,7 +232,7 @@ fn begin_commit<S: Store + Drop, L: Handed, R: Wait>(
 ) -> Result<(), Refusal>
     ensures { TookCommitTurn leaf.now.rank leaf.now.dir leaf.now.frag result }
 {
-    // the lock is let go before the job is sent
+    // the lock is released before the job is sent
     let begun = lock(desk, rt).begin(alloc, leaf.rank, leaf.dir, leaf.frag);
     match begun {
         Ok(Some(job)) => hand_on(rt, alloc, desk, jobs, job),
@@ -239,7 +241,7 @@ fn begin_commit<S: Store + Drop, L: Handed, R: Wait>(
     }
 }
 
-// Hands a job to the workers. Where it can't be handed on, its commit is given up.
+// Hands a job to the workers. If that fails, its commit is given up.
 fn hand_on<S: Store + Drop, L: Handed, R: Wait>(
     rt: &R,
     alloc: Global,

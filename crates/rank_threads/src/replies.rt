@@ -3,7 +3,7 @@ ghost use Rattle.std.specs.Prelude.{◌≡◌, ◌↔◌, IsTrue};
 
 use mds_types::{Inode, Listing, Reply};
 
-/// Whether both are one reply. The test that the type derives would do the same; it has no contract that says so.
+/// Whether two replies are the same. The derived `==` computes the same, but has no contract that says so.
 pub(crate) fn is_same(one: &Reply, other: &Reply) -> bool
     ensures { IsTrue result ↔ (one.now ≡ other.now) }
 {
@@ -19,14 +19,14 @@ pub(crate) fn is_same(one: &Reply, other: &Reply) -> bool
     }
 }
 
-// Whether both are one inode.
+// Whether two inodes are the same.
 fn is_same_inode(one: &Inode, other: &Inode) -> bool
     ensures { IsTrue result ↔ (one.now ≡ other.now) }
 {
     one == other
 }
 
-// Whether both have the same names and inodes, one after the other.
+// Whether two listings have the same names and inodes in the same order.
 fn is_same_listing(one: &Listing, other: &Listing) -> bool
     ensures { IsTrue result ↔ (one.now ≡ other.now) }
 {

@@ -29,21 +29,23 @@ use std::sync::ledger::Blank;
 use std::sync::{Mutex, Wait};
 use std::thread::Threads;
 
-/// Runs a book on many threads: one for each plan, that of rank 0 first, and so many workers beside them. A rank's
-/// thread works off its plan, and takes the lock of the book once for each turn. A commit that it begins is encoded by
-/// a worker with no lock held; the calling thread ends it, and gives it up where that is refused for another reason
-/// than a stale job. All memory that the threads need is taken before the first lock, but that of the steps, the
-/// messages and the receipts.
+/// Runs a book on many threads: one for each plan, the first of which is rank 0's, and so many workers beside them. A
+/// rank's thread makes the turns of its plan, and takes the lock of the book once for each. A worker encodes a commit
+/// that a turn began, with no lock held. The calling thread ends the commit; where that is refused for another reason
+/// than a stale job, it gives the commit up. The memory that the threads need is taken before the first lock, except
+/// the memory of the steps, the messages and the receipts.
 ///
-/// Whatever the schedule was, the book that comes back is a sound one that goes on from whatever opening tree and past the
-/// book handed in went on from, and its history begins with that book's: a run forgets nothing. Where the run succeeds, each turn of each plan has a result, and the receipts,
-/// which are the replies among them, are those of one thread that serves one plain tree the requests that waited and
-/// those that the plans bring. Each turn made what it says, with its result, and each thread hands back the bytes that
-/// its own turns sent, or that it was given to keep, and that none of them imported.
+/// Whatever the schedule was, the run returns a sound book. Whatever opening tree and past the book handed in goes on
+/// from, the returned book goes on from too. Its history begins with the history handed in: a run forgets nothing.
+/// Where the run succeeds, each turn of each plan has a result. The receipts are the replies among the results. They
+/// are those of one thread that serves one plain tree the requests that waited and those that the plans bring. Each
+/// turn did what it says, with its result. Each thread returns the bytes that its turns sent or kept, and that none of
+/// its turns imported.
 ///
-/// The run waits for its threads. It fails with `NoMemory` where memory was refused, `Spawn` where a thread can't be
-/// made, and `Strayed` where a reply that was handed out isn't the history's, or is one whose entry was forgotten before:
-/// `Book::forget_passed` forgets no entry whose reply may be handed out again, `Book::forget` may.
+/// The run waits for its threads. It fails with `NoMemory` if memory was refused, and with `Spawn` if a thread couldn't
+/// be made. It fails with `Strayed` if the history doesn't hold a reply that was handed out, or if the entry of that
+/// reply was forgotten before: `Book::forget_passed` forgets no entry whose reply may be handed out again, but
+/// `Book::forget` may.
 pub fn run_cluster<S, G, R>(
     rt: &R,
     alloc: Global,
@@ -77,14 +79,14 @@ where
     run_as::<S, Brand, G, R>(rt, alloc, book, blank, asked, gate)
 }
 
-// What is asked of a run: the turns of each rank's thread, and how many workers there are.
+// What a caller asks of a run: the turns of each rank's thread, and the number of workers.
 #[derive(Drop)]
 struct Asked {
     plans: Vec<Vec<Turn>>,
     workers: u8,
 }
 
-// A run of a book under a ledger that was picked for it.
+// Runs a book under a ledger that was picked for this run.
 fn run_as<S, L, G, R>(
     rt: &R,
     alloc: Global,
@@ -142,8 +144,8 @@ where
     }
 }
 
-// What a run gave, once its threads have ended. Each receipt is looked up; how many are marked first is known by the
-// shares.
+// The outcome of a run, once its threads have ended. Each receipt is looked up in the history. The shares tell how many
+// receipts are marked first.
 fn settled<S: Store + Drop, L: Handed>(
     alloc: Global,
     desk: Desk<S, L>,
@@ -185,7 +187,7 @@ fn settled<S: Store + Drop, L: Handed>(
     }
 }
 
-// The receipts of the replies among all results, each of which the history holds at its place, where it isn't forgotten.
+// The receipts of the replies among all results, if the history holds each at its place and its entry isn't forgotten.
 fn checked<S: Store + Drop>(
     alloc: Global,
     book: &Book<S>,

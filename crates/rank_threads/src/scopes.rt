@@ -105,7 +105,7 @@ where
         return Err(RunFault::Spawn);
     }
     let started = start_all(scope, rt, alloc, desk, gate, starts);
-    // All threads run to their ends, also where one couldn't be made.
+    // all threads run to their ends, also if one couldn't be made
     let listed = end_all(rt, alloc, desk, &results, &mut commits);
     let Some(handles) = started else {
         return Err(RunFault::Spawn);
@@ -121,7 +121,7 @@ where
     })
 }
 
-// Starts a thread for each plan, until one can't be made: then none is answered, and those that were made run on.
+// Starts a thread for each plan. If one can't be made, it returns none, and the threads that were made run on.
 fn start_all<'s, E, S, L, G, R>(
     scope: &Scope<'s, E>,
     rt: &'s R,
@@ -150,7 +150,7 @@ where
     Some(handles)
 }
 
-// Joins all threads, and gathers their answers, what they keep still, and their shares.
+// Joins all threads, and gathers their answers, the bytes that they still keep, and their shares.
 fn gather<L: Handed, R: Threads>(
     rt: &R,
     handles: Vec<Working<L>>,
@@ -183,7 +183,7 @@ fn gather<L: Handed, R: Threads>(
     Ok(())
 }
 
-// Starts a thread for each worker. Answers whether all could be made.
+// Starts a thread for each worker. Returns whether all could be made.
 fn start_workers<'s, E, S, L, G, R>(
     scope: &Scope<'s, E>,
     rt: &'s R,
@@ -206,7 +206,7 @@ where
     true
 }
 
-// Starts a thread for a worker. Answers whether it could be made.
+// Starts a thread for a worker. Returns whether it could be made.
 fn start_worker<'s, E, S, L, G, R>(
     scope: &Scope<'s, E>,
     rt: &'s R,

@@ -13,11 +13,12 @@ use mds_types::{Entry, Refusal};
 use objstore::Store;
 use std::alloc::{AllocError, Global};
 
-/// Whether receipts agree with a book's history from a place on: each names a place that holds its client, transaction
-/// number and reply, and those marked first name distinct places from there on, as many as the history has. Places are
-/// counted from the first entry ever. What an entry held that is forgotten nobody can tell: a receipt of one agrees with
-/// nothing. Of what a run applies and repeats none is, where the book forgot by `Book::forget_passed` alone, since a run
-/// forgets nothing. Takes memory, a byte for each entry that isn't forgotten; refused `NoMemory` alone.
+/// Whether receipts agree with a book's history from a place on. Each receipt names a place that holds its client,
+/// transaction number and reply. The receipts marked first name distinct places from that place on, as many as the
+/// history has there. Places are counted from the first entry ever. A receipt whose entry is forgotten agrees with
+/// nothing, since nobody can tell what that entry held. No receipt of a run has such an entry if the book forgot by
+/// `Book::forget_passed` alone, since a run itself forgets nothing. Takes memory, a byte for each entry that isn't
+/// forgotten. The only refusal is `NoMemory`.
 pub fn audit<S: Store + Drop>(
     alloc: Global,
     book: &Book<S>,
@@ -37,8 +38,8 @@ pub fn audit<S: Store + Drop>(
     }
 }
 
-/// Whether the place of each receipt holds it and isn't forgotten, and those marked first name distinct places from a
-/// place on.
+/// Whether the entry at each receipt's place isn't forgotten and holds the receipt, and the receipts marked first name
+/// distinct places from this place on.
 pub(crate) fn stand<S: Store + Drop>(
     alloc: Global,
     book: &Book<S>,
@@ -53,7 +54,7 @@ pub(crate) fn stand<S: Store + Drop>(
     stand_among(alloc, forgotten, history, from, receipts)
 }
 
-// So for the entries that aren't forgotten, behind so many that are.
+// `stand` with the kept entries, behind so many forgotten ones.
 #[tactic(auto, using(crate::proofs::ReceiptLaws::marked_none, crate::proofs::ReceiptLaws::stand_end))]
 fn stand_among(
     alloc: Global,
@@ -91,7 +92,7 @@ fn count_firsts(receipts: &[Receipt]) -> usize
     count
 }
 
-// Whether a receipt stands beside others, whose first ones' places are named.
+// Whether the history holds a receipt, and its place, if it is marked first, is a new one that isn't named yet.
 fn fits(
     forgotten: usize,
     history: &[Entry],

@@ -1,4 +1,4 @@
-//! The workers, which encode.
+//! The workers, which encode jobs.
 
 use crate::desks::{Desk, Handed};
 use crate::gates::Gate;
@@ -10,16 +10,16 @@ use objstore::Store;
 use std::alloc::Global;
 use std::sync::{Mutex, Wait};
 
-/// What became of a job at a worker.
+/// The result of a job at a worker.
 #[derive(Drop)]
 pub(crate) enum Finished {
-    /// It was encoded.
+    /// The job was encoded.
     Encoded(Encoded),
-    /// It wasn't, for this reason.
+    /// The job wasn't encoded, for this reason.
     Failed { job: u64, refusal: Refusal },
 }
 
-/// Encodes jobs with no lock held, until no more can come. A job whose result can't be sent on is given up.
+/// Encodes jobs with no lock held, until the channel closes. If a result can't be sent on, the commit is given up.
 pub(crate) fn encode_all<S: Store + Drop, L: Handed, G: Gate, R: Wait>(
     rt: &R,
     alloc: Global,
@@ -37,7 +37,7 @@ pub(crate) fn encode_all<S: Store + Drop, L: Handed, G: Gate, R: Wait>(
     }
 }
 
-// A job's encoding, or that it failed.
+// Encodes a job, or tells that this failed.
 fn encoded(alloc: Global, job: Job) -> Finished {
     let number = job.number;
     match Encoded::of(alloc, job) {

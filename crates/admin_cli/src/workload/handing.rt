@@ -1,4 +1,4 @@
-//! A directory handed to another rank, before the threads start.
+//! Exporting a directory to another rank, before the threads start.
 ghost use Rattle.admin_cli.specs.Left.{BookGrows};
 
 use crate::workload::steps::step;
@@ -7,10 +7,10 @@ use keeping::Keep;
 use mds_types::{Bytes, Frag, Ino, Rank, Refusal};
 use std::alloc::Global;
 
-/// The rank that has every subtree of a new book.
+/// The rank that has all subtrees of a new book.
 const FIRST: Rank = Rank(0);
 
-/// Exports a directory of one leaf from rank 0 to another rank, one step after the other. Nothing where a step is
+/// Exports a directory of one leaf from rank 0 to another rank, one step after the other. Returns none if a step is
 /// refused.
 #[tactic(auto, using(crate::proofs::GoesOnLaws::goes_on_past))]
 pub(crate) fn hand<S: Keep + Drop>(
@@ -25,7 +25,7 @@ pub(crate) fn hand<S: Keep + Drop>(
     take_over(alloc, book, ino)
 }
 
-// The first three steps of its export: the importer is told what will come.
+// The first three steps of the export: Start, Freeze, Prep.
 #[tactic(auto, using(crate::proofs::GoesOnLaws::goes_on_past))]
 fn prepare<S: Keep + Drop>(alloc: Global, book: &mut Book<S>, ino: Ino, to: Rank) -> Option<()>
     ensures { BookGrows book.old book.new }
@@ -48,7 +48,7 @@ fn prepare<S: Keep + Drop>(alloc: Global, book: &mut Book<S>, ino: Ino, to: Rank
     Some(())
 }
 
-// The last three: the importer takes it over.
+// The last three steps of the export: Send, Import, Finish.
 #[tactic(auto, using(crate::proofs::GoesOnLaws::goes_on_past))]
 fn take_over<S: Keep + Drop>(alloc: Global, book: &mut Book<S>, ino: Ino) -> Option<()>
     ensures { BookGrows book.old book.new }
@@ -60,7 +60,7 @@ fn take_over<S: Keep + Drop>(alloc: Global, book: &mut Book<S>, ino: Ino) -> Opt
     Some(())
 }
 
-// The bytes that a Send handed out.
+// The bytes that a Send gave.
 fn sent(answer: Result<Answer, Refusal>) -> Option<Bytes> {
     match answer {
         Ok(Answer::Sent(bytes)) => Some(bytes),

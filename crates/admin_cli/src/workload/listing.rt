@@ -12,7 +12,7 @@ use std::alloc::Global;
 /// The client that reads.
 const READER: u64 = 0;
 
-/// The paths of what stands in the root and in the directories there, in the order of bytes.
+/// The paths of all names in the root and in its directories, in the order of their bytes.
 #[tactic(auto, using(crate::proofs::GoesOnLaws::goes_on_here, crate::proofs::GoesOnLaws::goes_on_past))]
 pub(crate) fn all_paths<S: Keep + Drop>(alloc: Global, book: &mut Book<S>) -> Option<Vec<Bytes>>
     ensures ordered { IfSome result (λ paths. AreInOrder paths.items) }
@@ -28,7 +28,7 @@ pub(crate) fn all_paths<S: Keep + Drop>(alloc: Global, book: &mut Book<S>) -> Op
     sorted(paths)
 }
 
-// In the order of bytes.
+// Sorts paths by their bytes.
 fn sorted(paths: Vec<Bytes>) -> Option<Vec<Bytes>>
     ensures { IfSome result (λ paths. AreInOrder paths.items) }
 {
@@ -39,7 +39,7 @@ fn sorted(paths: Vec<Bytes>) -> Option<Vec<Bytes>>
     }
 }
 
-// An entry of the root, and what stands in it if it is a directory.
+// Adds the path of a name in the root, and the paths of its entries if it is a directory.
 #[tactic(auto, using(crate::proofs::GoesOnLaws::goes_on_here, crate::proofs::GoesOnLaws::goes_on_past))]
 fn add_entry<S: Keep + Drop>(
     alloc: Global,
@@ -60,7 +60,7 @@ fn add_entry<S: Keep + Drop>(
     add_names(alloc, name, &names, paths)
 }
 
-// What stands in a directory of the root.
+// Adds the paths of the names in a directory of the root.
 fn add_names(
     alloc: Global,
     dir: &Name,
@@ -82,8 +82,8 @@ fn path(alloc: Global, dir: &Name, name: &Name) -> Option<Bytes> {
     Bytes::from_vec(alloc, bytes).ok()
 }
 
-// The names in a directory with their inodes. One page has them all: it holds 1024, and no directory of a run has more
-// than 1000.
+// The names in a directory with their inodes. One page has them all: a page holds 1024 names, and no directory of a run
+// has more than 1000.
 #[tactic(auto, using(crate::proofs::GoesOnLaws::goes_on_here, crate::proofs::GoesOnLaws::goes_on_past))]
 fn names_in<S: Keep + Drop>(
     alloc: Global,

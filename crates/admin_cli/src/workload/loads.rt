@@ -1,4 +1,4 @@
-//! How much a run does.
+//! The size of a run.
 ghost use Rattle.std.specs.Prelude.{IsTrue};
 ghost use Rattle.admin_cli.specs.Loads.{IsLoad};
 

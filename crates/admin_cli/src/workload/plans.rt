@@ -1,4 +1,4 @@
-//! What each rank's thread does: creates in the directories of its rank, and commits.
+//! The plan of each rank's thread: creates in the directories of its rank, and commits.
 ghost use Rattle.std.specs.Prelude.{◌≡◌, IfSome, vec_len};
 
 use crate::workload::setup::Home;
@@ -7,8 +7,9 @@ use mds_types::{Birth, Dentry, Frag, Mode, Name, Op, Rank, Request};
 use rank_threads::Turn;
 use std::alloc::Global;
 
-/// A plan for each rank: so many files are created in each directory of its, one in each before the next in any, and a
-/// commit of the directory follows each tenth, with a turn of the rank's own behind it.
+/// A plan for each rank. The plan creates so many files in each directory of the rank: the first file in each
+/// directory, then the second in each, and so on. After each tenth file of a directory it commits the directory and
+/// takes an own turn.
 pub(crate) fn plans_of(
     alloc: Global,
     ranks: u8,
@@ -36,7 +37,7 @@ fn plan_of(alloc: Global, rank: Rank, homes: &[Home], creates: u16) -> Option<Ve
     Some(turns)
 }
 
-// The file of one number in each directory of the rank.
+// Adds the creates of one number, in each directory of the rank.
 fn add_round(
     alloc: Global,
     turns: &mut Vec<Turn>,
@@ -52,7 +53,7 @@ fn add_round(
     Some(())
 }
 
-// A create at the rank of its directory, and after each tenth a commit and a turn of the rank's own.
+// Adds a create at the rank of its directory, and after each tenth a commit and an own turn of the rank.
 fn add_create(alloc: Global, turns: &mut Vec<Turn>, home: Home, number: u16) -> Option<()> {
     let Home { client, dir, rank } = home;
     let tid = u64::from(number) + 2;

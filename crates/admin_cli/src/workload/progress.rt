@@ -1,14 +1,14 @@
-//! How far a run has come, told while it works.
+//! The progress of a run, shown while it works.
 
 use crate::workload::loads::Load;
 use mds_types::Rank;
 use rank_threads::Gate;
 use std::sync::atomic::{AtomicU64, Ordering};
 
-/// After so many creates the line is written anew.
+/// The line is written again after so many creates.
 const STEP: u64 = 250;
 
-/// Tells on standard error how many of the creates are done, and at the end how many steps the ranks made of their own.
+/// Shows on standard error how many of the creates are done, and at the end how many own steps the ranks made.
 #[derive(Drop)]
 pub struct Progress<'a, R: Eprint + Sync> {
     rt: &'a R,
@@ -18,7 +18,7 @@ pub struct Progress<'a, R: Eprint + Sync> {
 }
 
 impl<'a, R: Eprint + Sync> Progress<'a, R> {
-    /// None done yet of those of a load.
+    /// The progress of a load, none of whose creates is done yet.
     pub fn new(rt: &'a R, load: Load) -> Progress<'a, R> {
         Progress {
             rt,
@@ -28,7 +28,7 @@ impl<'a, R: Eprint + Sync> Progress<'a, R> {
         }
     }
 
-    /// Tells how many steps the ranks made of their own.
+    /// Shows how many own steps the ranks made.
     pub fn end(&self) {
         let moved = self.moved.load(Ordering::Relaxed);
         let _ = eprintln!(self.rt; "{moved} steps of ranks' own");

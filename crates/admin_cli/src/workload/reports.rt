@@ -1,4 +1,4 @@
-//! What a run prints.
+//! The text that a run prints.
 ghost use Rattle.std.specs.Prelude.{◌≡◌, ◌++◌, IfOk, IfSome, OnOk};
 ghost use Rattle.cluster_core.specs.State.{places_of};
 ghost use Rattle.admin_cli.specs.Left.{BookGrows};
@@ -10,8 +10,8 @@ use keeping::Keep;
 use mds_types::Bytes;
 use std::alloc::{AllocError, Global};
 
-/// The text of a run: how many requests were applied, whether the receipts agree, and the paths of the tree. Nothing
-/// where memory is refused or the tree can't be read.
+/// The text of a run: how many requests were applied, whether the receipts agree, and the paths of the tree. None if
+/// memory is refused or the tree can't be read.
 #[tactic(auto, using(crate::proofs::GoesOnLaws::goes_on_here, crate::proofs::GoesOnLaws::goes_on_past))]
 pub(crate) fn report<S: Keep + Drop>(
     alloc: Global,

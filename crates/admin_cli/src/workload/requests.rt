@@ -1,4 +1,4 @@
-//! A request, answered by one thread.
+//! A request that one thread makes and serves.
 ghost use Rattle.admin_cli.specs.Left.{BookGrows};
 
 use crate::workload::steps::step;
@@ -7,8 +7,8 @@ use keeping::Keep;
 use mds_types::{Rank, Refusal, Reply, Request};
 use std::alloc::Global;
 
-/// Sends a request to rank 0 and serves it there, or at the rank to which it is forwarded. Answers its reply, or
-/// nothing where it has none.
+/// Sends a request to rank 0, and serves it there or at the rank to which it is forwarded. Returns its reply, or none
+/// if it gets none.
 #[tactic(auto, using(crate::proofs::GoesOnLaws::goes_on_here, crate::proofs::GoesOnLaws::goes_on_past))]
 pub(crate) fn ask<S: Keep + Drop>(
     alloc: Global,
@@ -28,7 +28,7 @@ pub(crate) fn ask<S: Keep + Drop>(
     reply_to(client, tid, answer)
 }
 
-// What was forwarded is served at the rank that it went to.
+// Serves a forwarded request at the rank to which it was forwarded.
 #[tactic(auto, using(crate::proofs::GoesOnLaws::goes_on_here))]
 fn serve_on<S: Keep + Drop>(
     alloc: Global,
@@ -43,7 +43,7 @@ fn serve_on<S: Keep + Drop>(
     }
 }
 
-// The reply to this client's request, if the answer is that.
+// The reply to this client's request, if the answer is one.
 fn reply_to(client: u64, tid: u64, answer: Result<Answer, Refusal>) -> Option<Reply> {
     match answer {
         Ok(

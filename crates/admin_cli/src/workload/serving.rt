@@ -24,8 +24,8 @@ use thiserror::Error;
 /// Why a run failed.
 #[derive(Clone, Copy, Debug, PartialEq, Eq, Error)]
 pub enum ServeFault {
-    /// A run fault: 1 where memory was refused or a step of one thread was, 2 where a thread couldn't be made, 3 where
-    /// the receipts don't agree with the history.
+    /// A run fault: 1 if memory was refused or a step of one thread was, 2 if a thread couldn't be made, 3 if the
+    /// receipts don't agree with the history.
     #[error("fault {0}")]
     Fault(u8),
     /// The writer failed, or took no byte.
@@ -33,11 +33,11 @@ pub enum ServeFault {
     Write,
 }
 
-/// Runs a load over a cluster with an empty tree: each client's directory is made on one thread, then the ranks'
-/// threads create files in the directories and commit after each tenth, while workers encode. Writes how many requests
-/// were applied then, whether the audit holds, and every path below the root, one a line and sorted by bytes. At the run
-/// faults 1 and 2 nothing is written, at 3 the text says that the audit failed, and at a write fault a beginning of the
-/// text is written.
+/// Runs a load over a cluster with an empty tree. One thread makes each client's directory. Then the ranks' threads
+/// create files in the directories and commit after each tenth, while workers encode. The text that is written tells
+/// how many requests were applied, whether the audit holds, and every path below the root, one a line and sorted by
+/// bytes. At the run faults 1 and 2 nothing is written. At run fault 3 the text tells that the audit failed. At a write
+/// fault a beginning of the text is written.
 pub fn run_serve<W: Write, R: Threads + Wait + Sync + AllocGlobal>(
     rt: &R,
     writer: &mut W,
@@ -58,7 +58,7 @@ pub fn run_serve<W: Write, R: Threads + Wait + Sync + AllocGlobal>(
     run_watched(rt, writer, load, &OpenGate)
 }
 
-/// Does so, and calls the gate before each encoding and after each reply.
+/// Runs a load as `run_serve` does, and calls the gate before each encoding and after each reply.
 pub fn run_watched<W: Write, R: Threads + Wait + Sync + AllocGlobal, G: Gate>(
     rt: &R,
     writer: &mut W,
@@ -99,7 +99,7 @@ fn new_book(alloc: Global, ranks: u8) -> Option<Book<MemStore>>
     }
 }
 
-/// Whether a book is known to have opened with the empty tree: it keeps the tree that it opened with, and that is empty.
+/// Whether a book is known to have opened with the empty tree: it still keeps its opening tree, which is empty.
 #[tactic(auto, using(crate::proofs::GoesOnLaws::opens_empty_of))]
 pub fn opens_empty<S: Store + Drop>(alloc: Global, book: &Book<S>) -> bool
     ensures { IsTrue result → OpensEmpty book.now }
@@ -114,7 +114,7 @@ pub fn opens_empty<S: Store + Drop>(alloc: Global, book: &Book<S>) -> bool
     is_empty
 }
 
-/// A load that was run, and the book that it left.
+/// A load that was run, and the book after it.
 #[derive(Drop)]
 pub struct Served<S: Keep + Drop> {
     pub book: Book<S>,
@@ -122,8 +122,8 @@ pub struct Served<S: Keep + Drop> {
 }
 
 /// Runs a load as `run_watched` does, over a book of as many ranks that opened with the empty tree. Before the threads
-/// start the book forgets what no client may repeat. Whatever the outcome, the book that it hands back opened with that
-/// tree, and its whole history begins with that from before.
+/// start, the book forgets the entries that no client may repeat. Whatever the outcome, the returned book opened with
+/// that tree, and its whole history begins with the whole history from before.
 pub fn run_over_book<W, S, R, G>(
     rt: &R,
     writer: &mut W,
@@ -149,14 +149,14 @@ where
     Served { book, ended }
 }
 
-/// What a run prints, and whether its receipts agreed.
+/// The text that a run prints, and whether its receipts agreed.
 #[derive(Drop)]
 struct Printed {
     text: Vec<u8>,
     agrees: bool,
 }
 
-// What a run gave: what there is to print, or the number of the run fault; and the book that it left.
+// The result of a run, the text or the number of the run fault, and the book after it.
 #[derive(Drop)]
 struct Loaded<S: Keep + Drop> {
     book: Book<S>,
@@ -184,7 +184,7 @@ where
             gave: Err(RunFault::NoMemory.number()),
         };
     };
-    // no entry goes that a receipt of the run may be of
+    // the book keeps each entry that a receipt of the run may name
     forget_passed(&mut book);
     match run_cluster(rt, alloc, book, plans, load.workers, gate) {
         Ok(Outcome { book, .. }) => reported(alloc, book, true),
@@ -192,8 +192,7 @@ where
     }
 }
 
-// The directories of all clients are made, and what each rank's thread is to do is listed. Nothing where memory is
-// refused, or a step is.
+// Makes the directories of all clients, and lists the turns of each rank's thread. None if memory or a step is refused.
 #[tactic(auto, using(crate::proofs::GoesOnLaws::goes_on_here, crate::proofs::GoesOnLaws::goes_on_past, crate::proofs::GoesOnLaws::goes_on_run))]
 fn planned<S: Keep + Drop>(alloc: Global, book: &mut Book<S>, load: Load) -> Option<Vec<Vec<Turn>>>
     requires { IsLoad load.ranks load.workers load.clients load.creates }
@@ -204,8 +203,8 @@ fn planned<S: Keep + Drop>(alloc: Global, book: &mut Book<S>, load: Load) -> Opt
     plans_of(alloc, load.ranks, homes.as_slice(), load.creates)
 }
 
-// What a run prints that gave no outcome: at a reply that the history doesn't hold the same as at success, but for one
-// word.
+// The text of a run that gave no outcome. If the history doesn't hold a reply, it is the text of a success but for one
+// word; otherwise there is only the number of the fault.
 #[tactic(auto, using(crate::proofs::GoesOnLaws::goes_on_here, crate::proofs::GoesOnLaws::goes_on_past, crate::proofs::GoesOnLaws::goes_on_run))]
 fn failed<S: Keep + Drop>(alloc: Global, book: Book<S>, fault: RunFault) -> Loaded<S>
     requires opening { OpensEmpty book }
@@ -223,7 +222,7 @@ fn failed<S: Keep + Drop>(alloc: Global, book: Book<S>, fault: RunFault) -> Load
     }
 }
 
-// What a run prints.
+// The text of a run that ended.
 #[tactic(auto, using(crate::proofs::GoesOnLaws::goes_on_here, crate::proofs::GoesOnLaws::goes_on_past, crate::proofs::GoesOnLaws::goes_on_run))]
 fn reported<S: Keep + Drop>(alloc: Global, book: Book<S>, agrees: bool) -> Loaded<S>
     requires opening { OpensEmpty book }

@@ -1,4 +1,4 @@
-//! What is made before the threads start: a directory for each client.
+//! What one thread makes before the others start: a directory for each client.
 ghost use Rattle.std.specs.Prelude.{◌≤◌};
 ghost use Rattle.admin_cli.specs.Left.{BookGrows};
 
@@ -17,8 +17,8 @@ pub(crate) struct Home {
     pub(crate) rank: Rank,
 }
 
-/// Makes a directory in the root for each of so many clients, in a book of so many ranks, and hands them to the ranks in
-/// turn: the first to rank 0, the next to rank 1, .. Nothing where memory is refused, or a step is.
+/// Makes a directory in the root for each of so many clients, in a book of so many ranks. The first directory is handed
+/// to rank 0, the next to rank 1, and so on in turn. None if memory or a step is refused.
 #[tactic(auto, using(crate::proofs::GoesOnLaws::goes_on_here, crate::proofs::GoesOnLaws::goes_on_past))]
 pub(crate) fn make_homes<S: Keep + Drop>(
     alloc: Global,
@@ -39,7 +39,7 @@ pub(crate) fn make_homes<S: Keep + Drop>(
     Some(homes)
 }
 
-// Makes the directory of the client after so many others, at a rank.
+// Makes the directory of the next client, at a rank, after so many others.
 #[tactic(auto, using(crate::proofs::GoesOnLaws::goes_on_here, crate::proofs::GoesOnLaws::goes_on_past))]
 fn make_home<S: Keep + Drop>(
     alloc: Global,
@@ -50,7 +50,7 @@ fn make_home<S: Keep + Drop>(
     ensures { BookGrows book.old book.new }
 {
     let dir = make_dir(alloc, book, number)?;
-    // a new directory is that of the rank that has the root
+    // the authority of a new directory is the rank that has the root
     if rank != Rank(0) {
         hand(alloc, book, dir, rank)?;
     }
@@ -61,7 +61,7 @@ fn make_home<S: Keep + Drop>(
     })
 }
 
-// The client after so many others.
+// The next client after so many others.
 fn client_of(number: u8) -> u64 {
     u64::from(number) + 1
 }

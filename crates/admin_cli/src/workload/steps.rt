@@ -1,4 +1,4 @@
-//! A step of a load's book, and what it forgets.
+//! A step of a load's book, and its forgetting.
 ghost use Rattle.admin_cli.specs.Left.{BookGrows};
 
 use cluster_core::{Answer, Book, Event};
@@ -6,7 +6,7 @@ use keeping::Keep;
 use mds_types::Refusal;
 use std::alloc::Global;
 
-/// One step, by which the book goes on.
+/// Makes one step of the book.
 #[inline(always)]
 pub(crate) fn step<S: Keep + Drop>(
     alloc: Global,
@@ -18,7 +18,7 @@ pub(crate) fn step<S: Keep + Drop>(
     book.step(alloc, event)
 }
 
-/// The book forgets what no client may repeat: no entry of which a reply may be handed out again. So it goes on.
+/// The book forgets the entries that no client may repeat, and whose reply is therefore never handed out again.
 #[tactic(auto, using(crate::proofs::GoesOnLaws::goes_on_forgot))]
 pub(crate) fn forget_passed<S: Keep + Drop>(book: &mut Book<S>)
     ensures { BookGrows book.old book.new }
