@@ -1,11 +1,10 @@
 //! A book that goes on with what an earlier one kept.
-ghost use Rattle.std.specs.Prelude.{◌≡◌, ◌+◌, ◌<◌, ◌≤◌, ◌×◌, [], List, Some, get_or, length, IfErr, IfOk};
+ghost use Rattle.std.specs.Prelude.{◌≡◌, ◌+◌, ◌<◌, ◌≤◌, [], ℕ, List, Some, get_or, length, IfErr, IfOk};
 ghost use Rattle.objstore.specs.Objects.{faults_in};
-ghost use Rattle.cold_store.specs.ColdTree.{IsColdTree};
 ghost use Rattle.inode_table.specs.Numbers.{end_number};
 ghost use Rattle.mds_types.specs.declared.entries.Entry.{Entry as Applied};
 ghost use Rattle.sessions.specs.Rooms.{table};
-ghost use Rattle.cluster_core.specs.Mounted.{MayNotMount};
+ghost use Rattle.mdcache.specs.Mounted.{IsColdTree, MayNotMount};
 ghost use Rattle.cluster_core.specs.Resumed.{AreRaised, IsRaised, TellsAll, resumes};
 ghost use Rattle.cluster_core.specs.Sound.{StandsBehind, IsSoundKept};
 ghost use Rattle.cluster_core.specs.State.{no_supply, shown, supply_of};
