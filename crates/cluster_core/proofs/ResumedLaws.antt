@@ -51,7 +51,7 @@ module _ (tree : Tree) (told : List Entry) (nexts : List ℕ) where
     tree = sound.tree;
     subtrees = sound.subtrees;
     cached = record { unsaved = sound.cached.unsaved; places = sound.cached.places; held = sound.cached.held; orders = sound.cached.orders };
-    exported = record { placed = sound.exported.placed; ranked = sound.exported.ranked; there = sound.exported.there; unbegun = λ leaf job is frozen. sound.exported.unbegun leaf job is (record { root = frozen.root; export = frozen.export; stands = frozen.stands; freezing = frozen.freezing; inside = frozen.inside }) };
+    exported = record { placed = sound.exported.placed; ranked = sound.exported.ranked; there = sound.exported.there; unbegun = sound.exported.unbegun };
     ranks = record {
       some = omega (arith, sound.ranks.some, raised.as_many);
       inboxes = sound.ranks.inboxes ∙ sym raised.as_many;

@@ -1,7 +1,7 @@
 //! A book that goes on with what an earlier one kept.
 ghost use Rattle.std.specs.Prelude.{◌≡◌, ◌+◌, ◌<◌, ◌≤◌, [], ℕ, List, Some, get_or, length, IfErr, IfOk};
 ghost use Rattle.objstore.specs.Objects.{faults_in};
-ghost use Rattle.inode_table.specs.Numbers.{end_number};
+ghost use Rattle.inode_table.specs.Numbers.{IsSupply};
 ghost use Rattle.mds_types.specs.declared.entries.Entry.{Entry as Applied};
 ghost use Rattle.sessions.specs.Rooms.{table};
 ghost use Rattle.mdcache.specs.Mounted.{IsColdTree, MayNotMount};
@@ -101,6 +101,8 @@ impl Given {
         requires few { length self.old.numbers.items ≤ 16 }
         requires own { (rank : ℕ) → rank < length self.old.numbers.items
             → (get_or self.old.numbers.items rank no_supply).rank ≡ rank }
+        requires valid { (rank : ℕ) → rank < length self.old.numbers.items
+            → IsSupply (get_or self.old.numbers.items rank no_supply) }
         ensures sessions { table self.new.sessions ≡ table sessions }
         ensures numbers { AreRaised nexts.now self.old.numbers.items self.new.numbers.items }
     {
@@ -116,6 +118,7 @@ impl Given {
 fn raise(numbers: &mut Numbers, rank: usize, next: u64)
     requires ranked { rank < 16 }
     requires own { numbers.old.rank ≡ rank }
+    requires valid { IsSupply numbers.old }
     ensures { IsRaised numbers.old numbers.new next }
 {
     if let Some(Ino(now)) = numbers.peek() {
