@@ -1,4 +1,7 @@
 pub mod Aside
+pub mod Replies
+pub mod Restored
 pub mod Rooms
 pub mod Seen
+pub mod Stored
 pub mod Table

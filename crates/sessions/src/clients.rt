@@ -1,12 +1,14 @@
 //! What is kept for one client.
-ghost use Rattle.std.specs.Prelude.{◌≡◌, ◌<◌, ◌≤◌, ◌-◌, ℕ, None, Some, true, false, cond, length, IsOk, OnErr, OnOk};
+ghost use Rattle.std.specs.Prelude.{◌≡◌, ◌<◌, ◌≤◌, ◌-◌, ℕ, None, Some, true, false, cond, length, IfErr, IsOk, OnErr, OnOk};
 ghost use Rattle.std.specs.FinMap as map;
 ghost use Rattle.sessions.specs.Aside.{is_kept_at, row_with_aside};
+ghost use Rattle.sessions.specs.Restored.{IsUnfitFor, TakesToldReply, marked_row};
 ghost use Rattle.sessions.specs.Table.{no_row, noted_row, trimmed_row};
 ghost use Rattle.sessions.specs.Seen.{IsReplyIn, SeesInRow};
 ghost use Rattle.sessions.specs.Rooms.{Held as Table, IsSessionAt, TellsSession};
 
 use crate::found::SessionAt;
+use crate::restoring::Unfit;
 use mds_types::{Entry, Reply};
 use sorted_map::SortedMap;
 use std::alloc::{AllocError, Global};
@@ -58,6 +60,17 @@ impl Client {
     {
         Client {
             mark: 0,
+            kept: SortedMap::new(alloc),
+            aside: SortedMap::new(alloc),
+        }
+    }
+
+    /// A client of which the mark alone is known.
+    pub(crate) fn marked(alloc: Global, mark: u64) -> Client
+        ensures { result.row ≡ marked_row mark }
+    {
+        Client {
+            mark,
             kept: SortedMap::new(alloc),
             aside: SortedMap::new(alloc),
         }
@@ -158,6 +171,25 @@ impl Client {
             return true;
         }
         may_move && self.set_aside(first.tid, &mut first.reply).is_ok()
+    }
+
+    /// Takes a reply as it was stored, whose entry had this place and is forgotten.
+    pub(crate) fn restore(&mut self, tid: u64, place: usize, reply: Reply) -> Result<(), Unfit>
+        ensures taken { OnOk result (TakesToldReply self.old.row self.new.row tid place reply) }
+        ensures same { OnErr result (self.new.row ≡ self.old.row) }
+        ensures unfit { IfErr result (IsUnfitFor self.old.row tid) }
+    {
+        if tid < self.mark {
+            return Err(Unfit::BelowMark);
+        }
+        if self.kept.contains(&tid) {
+            return Err(Unfit::ReplyTwice);
+        }
+        self.kept.reserve(1)?;
+        self.aside.reserve(1)?;
+        let _ = self.kept.insert(tid, place);
+        let _ = self.aside.insert(tid, reply);
+        Ok(())
     }
 
     // Moves the reply to a transaction number here. Refused for want of memory: all is as it was then.

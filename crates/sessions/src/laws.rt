@@ -1,10 +1,14 @@
 //! The laws of the table that sees a history grow and be forgotten. A law is its contract: its body does nothing.
-ghost use Rattle.std.specs.Prelude.{◌≡◌, ◌++◌, ◌∷◌, [], false, List, length};
+ghost use Rattle.std.specs.Prelude.{◌≡◌, ◌++◌, ◌∷◌, [], ℕ, false, List, length};
 ghost use Rattle.std.specs.List.{list_any};
 ghost use Rattle.mds_types.specs.History.{is_pair};
 ghost use Rattle.mds_types.specs.declared.entries.Entry.{Entry as Applied};
+ghost use Rattle.mds_types.specs.declared.replies.Reply.{Reply};
 ghost use Rattle.sessions.specs.Aside.{AreSetAside, forget_all};
-ghost use Rattle.sessions.specs.Table.{IsTableOf, Table, noted, trimmed};
+ghost use Rattle.sessions.specs.Replies.{AnswerAlike, ArePairsOnce};
+ghost use Rattle.sessions.specs.Restored.{IsRestored, IsStoredOf, TakesClient, TakesReply};
+ghost use Rattle.sessions.specs.Stored.{Stored, of_mark, told, with_reply};
+ghost use Rattle.sessions.specs.Table.{IsTableOf, Table, no_table, noted, trimmed};
 
 /// The table of a history, in which the reply of one more entry was kept and that entry's client trimmed, is the table
 /// of the history with that entry: what `keep` and then `trim` leave.
@@ -26,4 +30,22 @@ pub fn forgotten_replies_stay()
         → AreSetAside past (first ++ rest) table
         → IsTableOf (past ++ (first ++ rest)) (forget_all table first)
         × AreSetAside (past ++ first) rest (forget_all table first) }
+{}
+
+/// The table that begins with no sessions, and takes clients, and behind each of them its replies, is that of what was
+/// stored: what `restore_client` and `restore_reply` leave.
+pub fn restored_sessions_follow()
+    ensures start { IsRestored [] no_table }
+    ensures client { (stored : List Stored) (old new : Table) (client mark : ℕ) → IsRestored stored old
+        → TakesClient old new client mark → IsRestored (stored ++ of_mark client mark ∷ []) new }
+    ensures reply { (stored : List Stored) (s : Stored) (old new : Table) (tid : ℕ) (reply : Reply)
+        → IsRestored (stored ++ s ∷ []) old → TakesReply old new s.client tid reply
+        → IsRestored (stored ++ with_reply s tid reply ∷ []) new }
+{}
+
+/// Where what was stored is what a history keeps, each request is to what its clients were told what it is to the
+/// history, and one that is kept has the same reply.
+pub fn restored_sessions_answer_alike()
+    ensures { (history : List Applied) (stored : List Stored) (table : Table) → IsStoredOf history stored
+        → ArePairsOnce history → IsRestored stored table → AnswerAlike history (told stored) }
 {}

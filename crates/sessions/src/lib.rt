@@ -7,8 +7,10 @@
 mod clients;
 mod found;
 pub mod laws;
+mod restoring;
 mod session_table;
 
 pub use clients::Seen;
 pub use found::SessionAt;
+pub use restoring::Unfit;
 pub use session_table::Sessions;

@@ -19,17 +19,17 @@ use std::fmt;
 use std::marker::Model;
 
 // The most entries that are forgotten: with any history behind them their number is one of 64 bits.
-const MOST_FORGOTTEN: usize = 4_611_686_018_427_387_904;
+pub(crate) const MOST_FORGOTTEN: usize = 4_611_686_018_427_387_904;
 
 /// What is known of every client: its mark, and where in the history its kept replies are, those at or above it. Places
 /// are counted from the first entry ever. Of the history a beginning may be forgotten: the kept replies of it stand here.
 #[derive(Drop)]
 pub struct Sessions {
     /// How many entries are forgotten.
-    forgotten: usize,
+    pub(crate) forgotten: usize,
     /// Where each client's session is, which it keeps for ever.
-    indices: SortedMap<u64, usize>,
-    sessions: Vec<Client>,
+    pub(crate) indices: SortedMap<u64, usize>,
+    pub(crate) sessions: Vec<Client>,
     /// A client of which nothing is known, made ready with room for one reply; `sessions` has room for it.
     spare: Option<Client>,
 }
@@ -101,7 +101,7 @@ impl Sessions {
     }
 
     // Where the session of a client is.
-    fn find(&self, client: u64) -> SessionAt
+    pub(crate) fn find(&self, client: u64) -> SessionAt
         ensures named { result.client ≡ client }
         ensures found { IsSessionAt self.now result }
     {
@@ -298,7 +298,7 @@ fn roomy(alloc: Global) -> Result<Client, AllocError>
 }
 
 // Adds a client that isn't there yet, for which there is room.
-fn add(indices: &mut SortedMap<u64, usize>, client: u64, i: usize)
+pub(crate) fn add(indices: &mut SortedMap<u64, usize>, client: u64, i: usize)
     requires { 0 < indices.old.room }
     ensures { contents nat_cmp indices.new ≡ map.insert (contents nat_cmp indices.old) client i }
 {
