@@ -1,7 +1,7 @@
 -- Names of other crates, and of this one's definitions, as the proofs of this crate take them.
 pub use Rattle.mds_types.specs.History.{IsPairAt, is_pair, mark}
 pub use Rattle.mds_types.specs.declared.entries.Entry.{Entry}
-pub use Rattle.sessions.specs.Rooms.{AreIndexed, Held, Session, no_session, row_at, rows, table}
+pub use Rattle.sessions.specs.Rooms.{AreIndexed, AreListed, Held, Session, changed_at, is_among, with_changed, no_session, row_at, rows, table}
 pub use Rattle.mds_types.specs.declared.replies.Reply.{Reply}
 pub use Rattle.sessions.specs.Aside.{AreSetAside, IsAsideFor, StopsForgetting, forget_all, forget_first, is_kept_at, keeps_first, released, row_with_aside, rows_with_aside}
 pub use Rattle.sessions.specs.Seen.{IsReplyAt, IsReplyIn, IsSeen, SeesInRow}

@@ -1,4 +1,5 @@
 pub mod AsideLaws
+pub mod ChangedLaws
 pub mod Common
 pub mod RowLaws
 pub mod TableLaws

@@ -1,4 +1,5 @@
 pub mod Aside
+pub mod Kept
 pub mod Replies
 pub mod Restored
 pub mod Rooms

@@ -1,13 +1,15 @@
 //! The laws of the table that sees a history grow and be forgotten. A law is its contract: its body does nothing.
-ghost use Rattle.std.specs.Prelude.{◌≡◌, ◌++◌, ◌∷◌, [], ℕ, false, List, length};
+ghost use Rattle.std.specs.Prelude.{◌≡◌, ◌++◌, ◌∷◌, [], ℕ, false, true, List, length};
 ghost use Rattle.std.specs.List.{list_any};
+ghost use Rattle.std.specs.FinMap.{is_sorted};
+ghost use Rattle.std.specs.Ordering.{nat_cmp};
 ghost use Rattle.mds_types.specs.History.{is_pair};
 ghost use Rattle.mds_types.specs.declared.entries.Entry.{Entry as Applied};
 ghost use Rattle.mds_types.specs.declared.replies.Reply.{Reply};
 ghost use Rattle.sessions.specs.Aside.{AreSetAside, forget_all};
-ghost use Rattle.sessions.specs.Replies.{AnswerAlike, ArePairsOnce};
+ghost use Rattle.sessions.specs.Replies.{AnswerAlike, ArePairsOnce, kept_replies, kept_reply};
 ghost use Rattle.sessions.specs.Restored.{IsRestored, IsStoredOf, TakesClient, TakesReply};
-ghost use Rattle.sessions.specs.Stored.{Stored, of_mark, told, with_reply};
+ghost use Rattle.sessions.specs.Stored.{Stored, of_mark, reply_in, told, with_reply};
 ghost use Rattle.sessions.specs.Table.{IsTableOf, Table, no_table, noted, trimmed};
 
 /// The table of a history, in which the reply of one more entry was kept and that entry's client trimmed, is the table
@@ -48,4 +50,14 @@ pub fn restored_sessions_follow()
 pub fn restored_sessions_answer_alike()
     ensures { (history : List Applied) (stored : List Stored) (table : Table) → IsStoredOf history stored
         → ArePairsOnce history → IsRestored stored table → AnswerAlike history (told stored) }
+{}
+
+/// What is kept of a client are the replies that the history keeps, in the order of their transaction numbers: that of
+/// each pair which isn't below the client's mark.
+pub fn kept_replies_are_the_histories()
+    ensures replies { (past history : List Applied) (table : Table) (client tid : ℕ) → IsTableOf (past ++ history) table
+        → AreSetAside past history table → ArePairsOnce (past ++ history)
+        → reply_in (kept_replies history table client) tid ≡ kept_reply (past ++ history) client tid }
+    ensures order { (history : List Applied) (table : Table) (client : ℕ)
+        → is_sorted nat_cmp (kept_replies history table client) ≡ true }
 {}

@@ -40,6 +40,7 @@ impl Sessions {
     pub fn restore_client(&mut self, alloc: Global, client: u64, mark: u64) -> Result<(), Unfit>
         ensures taken { OnOk result (TakesClient (table self.old) (table self.new) client mark) }
         ensures same { OnErr result (table self.new ≡ table self.old) }
+        ensures changed { self.new.changed ≡ self.old.changed }
         ensures unfit { IfErr result (IsUnfitClient (table self.old) client) }
     {
         if self.indices.contains(&client) {
@@ -65,6 +66,7 @@ impl Sessions {
     pub fn restore_reply(&mut self, client: u64, tid: u64, reply: Reply) -> Result<(), Unfit>
         ensures taken { OnOk result (TakesReply (table self.old) (table self.new) client tid reply) }
         ensures same { OnErr result (table self.new ≡ table self.old) }
+        ensures changed { self.new.changed ≡ self.old.changed }
         ensures unfit { IfErr result (IsUnfitReply (table self.old) client tid) }
     {
         let Some(i) = self.find(client).session else {
