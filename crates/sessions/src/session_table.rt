@@ -1,5 +1,5 @@
 //! The session table and its calls.
-ghost use Rattle.std.specs.Prelude.{◌≡◌, ◌<◌, ◌≤◌, ◌^◌, ◌++◌, ◌&&◌, ◌∷◌, [], ℕ, List, true, false, not, length, take, drop, vec_len, vec_capacity, IsOk, IfOk, OnOk, IfErr};
+ghost use Rattle.std.specs.Prelude.{◌≡◌, ◌<◌, ◌≤◌, ◌^◌, ◌++◌, ◌&&◌, ◌∷◌, [], ℕ, List, true, false, not, length, take, drop, vec_len, vec_capacity, IsOk, nat_lt, IfOk, OnErr, OnOk, IfErr};
 ghost use Rattle.std.specs.List.{slice_index_or};
 ghost use Rattle.std.specs.Ordering.{nat_cmp};
 ghost use Rattle.std.specs.FinMap as map;
@@ -132,7 +132,7 @@ impl Sessions {
         ensures there { IsReady self.old at.now.client → IsOk result × (self.new ≡ self.old) }
         ensures err { IfErr result (λ e. e ≡ Refusal.NoMemory) }
     {
-        self.changed.reserve(1)?;
+        place_for_one(&mut self.changed)?;
         if let Some(i) = at.session {
             self.sessions[i].reserve()?;
             return Ok(());
@@ -345,6 +345,17 @@ fn roomy(alloc: Global) -> Result<Client, AllocError>
     let mut fresh = Client::new(alloc);
     fresh.reserve()?;
     Ok(fresh)
+}
+
+// Makes room in the list of the changed clients for one more.
+fn place_for_one(changed: &mut Vec<u64>) -> Result<(), AllocError>
+    ensures same { changed.new.items ≡ changed.old.items }
+    ensures fits { OnOk result (nat_lt (vec_len changed.new) (vec_capacity changed.new) ≡ true) }
+    ensures refused { OnErr result (nat_lt (vec_len changed.new) (vec_capacity changed.new)
+        ≡ nat_lt (vec_len changed.old) (vec_capacity changed.old)) }
+    ensures there { nat_lt (vec_len changed.old) (vec_capacity changed.old) ≡ true → IsOk result }
+{
+    changed.reserve(1)
 }
 
 // Adds a client that isn't there yet, for which there is room.
