@@ -1,5 +1,5 @@
 -- Which clients are changed.
-use Rattle.sessions.proofs.Common.{AreIndexed, AreListed, Bool, List, None, Option, Session, Some, [], ap, arith, changed_at, cond, eq-eqb, eqb-true, false, false≢true, get-empty, get_or-append_seam, get_or-set_at, get_or-set_other, get_or_append_left, get_or_default, get_or, is_among, length, list_any, list_any-append, nat_cmp, nat_eq_equiv, no_session, none-some, or-false, refl, same_Some, set, subst, sym, true, with_changed, ℕ, ◌++◌, ◌<◌, ◌==◌, ◌||◌, ◌∙◌, ◌∷◌, ◌≡◌, ◌≢◌}
+use Rattle.sessions.proofs.Common.{AreIndexed, AreListed, Bool, not, take, ◌&&◌, ◌+◌, List, None, Option, Session, Some, [], ap, arith, changed_at, cond, eq-eqb, eqb-true, false, false≢true, get-empty, get_or-append_seam, get_or-set_at, get_or-set_other, get_or_append_left, get_or_default, get_or, is_among, length, list_any, list_any-append, list_any_more, nat_cmp, nat_eq_equiv, no_session, none-some, or-false, refl, same_Some, set, subst, sym, true, with_changed, ℕ, ◌++◌, ◌<◌, ◌==◌, ◌||◌, ◌∙◌, ◌∷◌, ◌≡◌, ◌≢◌}
 use Rattle.std.specs.FinMap as map
 use Rattle.sessions.proofs.RowLaws.{get_with}
 
@@ -82,3 +82,27 @@ module _ (m : map.FinMap nat_cmp ℕ) (ss : List Session) (l : List ℕ) (listed
         go : (q : ℕ) (b : Bool) → (q == client) ≡ b → cond b w.changed (is_among l q) ≡ is_among l q
         go q true one = is ∙ sym unknown_before ∙ ap (is_among l) (sym (eqb-true q client one))
         go q false apart = refl
+
+-- one client more that isn't changed any more, so many of the list have gone before
+pub cleared_more : (l : List ℕ) (i client q : ℕ) (was : Bool) → i < length l → client ≡ get_or l i 0
+    → cond (q == client) false (was && not (is_among (take i l) q)) ≡ (was && not (is_among (take (i + 1) l) q))
+cleared_more l i client q was low is =
+    go (q == client) was (is_among (take i l) q) ∙ ap (λ b. was && not (is_among (take i l) q || b)) (nat_eq_equiv.symm q client ∙ ap (λ c. c == q) is)
+    ∙ ap (λ b. was && not b) (sym (list_any_more (λ c. c == q) l i 0 low))
+  where
+    go : (b was gone : Bool) → cond b false (was && not gone) ≡ (was && not (gone || b))
+    go true true true = refl
+    go true true false = refl
+    go true false gone = refl
+    go false true true = refl
+    go false true false = refl
+    go false false gone = refl
+
+-- where none is changed that was in the list, none is
+pub listed_cleared : (m : map.FinMap nat_cmp ℕ) (ss new : List Session) (l : List ℕ) → AreListed m ss l
+    → ((q : ℕ) → changed_at new (map.get m q) ≡ (changed_at ss (map.get m q) && not (is_among l q))) → AreListed m new []
+listed_cleared m ss new l listed h = λ q. sym (h q ∙ ap (λ b. b && not (is_among l q)) (sym (listed q)) ∙ go (is_among l q))
+  where
+    go : (b : Bool) → (b && not b) ≡ false
+    go true = refl
+    go false = refl

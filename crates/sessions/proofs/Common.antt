@@ -9,13 +9,13 @@ pub use Rattle.sessions.specs.Table.{IsKeptFor, IsTableOf, Row, Rows, Table, asi
 pub use Rattle.sessions.specs.declared.clients.Seen.{Seen}
 pub use Rattle.sessions.specs.declared.clients.Seen.TheVariants.{Kept, New, Trimmed}
 pub use Rattle.sorted_map.specs.SortedMap.{contents, is_from}
-pub use Rattle.std.proofs.Common.{Bool, IfSome, List, None, Option, Some, T, [], ap, ap₂, arith, cond, eq-eqb, eqb-true, false, get_or, inl, inr, length, append-nil, append_assoc, drop, option_map, refl, take, set, subst, sym, true, vec_capacity, vec_len, ℕ, ⊎_elim, ◌&&◌, ◌++◌, ◌<◌, ◌==◌, ◌∙◌, ◌∷◌, ◌≡◌, ◌≢◌, ◌+◌, ◌-◌, suc, rules, zero}
+pub use Rattle.std.proofs.Common.{not, Bool, IfSome, List, None, Option, Some, T, [], ap, ap₂, arith, cond, eq-eqb, eqb-true, false, get_or, inl, inr, length, append-nil, append_assoc, drop, option_map, refl, take, set, subst, sym, true, vec_capacity, vec_len, ℕ, ⊎_elim, ◌&&◌, ◌++◌, ◌<◌, ◌==◌, ◌∙◌, ◌∷◌, ◌≡◌, ◌≢◌, ◌+◌, ◌-◌, suc, rules, zero}
 pub use Rattle.std.proofs.Math.Bool.{or-false}
 pub use Rattle.std.proofs.Math.Seq.{get_or-append-add, get_or-append_seam, get_or-drop}
 pub use Rattle.std.proofs.lemmas.Bool.{false≢true}
 pub use Rattle.std.proofs.lemmas.Grind.{get_or-set_at}
 pub use Rattle.std.proofs.lemmas.List.{get_or-set_other, get_or_append_left, get_or_default, length-append, length-set, set-get_or}
-pub use Rattle.std.proofs.lemmas.List.Folds.{list_any-append, list_any_at}
+pub use Rattle.std.proofs.lemmas.List.Folds.{list_any-append, list_any_at, list_any_more}
 pub use Rattle.std.specs.List.{list_any, slice_index_or}
 pub use Rattle.std.proofs.lemmas.Map.Keys.{le_from_is_le}
 pub use Rattle.std.proofs.lemmas.Option.{none-some, same_Some}

@@ -39,6 +39,14 @@ behind forgotten rows = record { forgotten = forgotten; rows = rows }
 pub same_behind : (f : ℕ) (r s : Rows) → r ≡ s → behind f r ≡ behind f s
 same_behind f r s e = ap (behind f) e
 
+-- the same rows, in sessions that differ in their rooms or marks of change
+pub rows_alike : (m : map.FinMap nat_cmp ℕ) (ss new : List Session) → ((i : ℕ) → row_at new i ≡ row_at ss i) → rows m new ≡ rows m ss
+rows_alike m ss new same = same_map nat_cmp_total nat_cmp-IsAntisymmetric _ _ (λ q. get-rows m new q ∙ go (map.get m q) ∙ sym (get-rows m ss q))
+  where
+    go : (o : Option ℕ) → option_map (row_at new) o ≡ option_map (row_at ss) o
+    go None = refl
+    go (Some i) = ap Some (same i)
+
 -- no sessions have no rows, and each a place of its own
 pub rows-empty : rows map.empty [] ≡ map.empty
 rows-empty = same_map nat_cmp_total nat_cmp-IsAntisymmetric _ _ (λ q.

@@ -1,5 +1,5 @@
 //! The session table and its calls.
-ghost use Rattle.std.specs.Prelude.{◌≡◌, ◌<◌, ◌≤◌, ◌^◌, ◌++◌, ◌&&◌, ◌∷◌, [], ℕ, List, true, false, not, length, take, drop, vec_len, vec_capacity, IsOk, nat_lt, IfOk, OnErr, OnOk, IfErr};
+ghost use Rattle.std.specs.Prelude.{◌≡◌, ◌<◌, ◌≤◌, ◌^◌, ◌++◌, ◌&&◌, ◌==◌, ◌∷◌, [], ℕ, List, true, false, not, cond, length, take, drop, vec_len, vec_capacity, IsOk, nat_lt, IfOk, OnErr, OnOk, IfErr};
 ghost use Rattle.std.specs.List.{slice_index_or};
 ghost use Rattle.std.specs.Ordering.{nat_cmp};
 ghost use Rattle.std.specs.FinMap as map;
@@ -306,8 +306,10 @@ impl Sessions {
             × AreSetAside past history.now (table self.now) }
         ensures { IsKept history.entry.now (table self.now) client result }
     {
-        let i = self.find(client).session?;
-        Some(self.sessions[i].kept(history, self.forgotten))
+        match self.find(client).session {
+            Some(i) => Some(self.sessions[i].kept(history, self.forgotten)),
+            None => None,
+        }
     }
 }
 
@@ -377,8 +379,20 @@ fn clear(indices: &SortedMap<u64, usize>, sessions: &mut Vec<Client>, changed: &
         && not (is_among changed.now client) }
 {
     for client in changed {
-        if let Some(i) = indices.get(client) {
-            sessions[*i].clear_changed();
-        }
+        clear_one(indices, sessions, *client);
+    }
+}
+
+// This client isn't changed any more.
+fn clear_one(indices: &SortedMap<u64, usize>, sessions: &mut Vec<Client>, client: u64)
+    requires { AreIndexed (contents nat_cmp indices.now) sessions.old.items }
+    ensures rows { (i : ℕ) → row_at sessions.new.items i ≡ row_at sessions.old.items i }
+    ensures long { length sessions.new.items ≡ length sessions.old.items }
+    ensures capacity { vec_capacity sessions.new ≡ vec_capacity sessions.old }
+    ensures cleared { (q : ℕ) → changed_at sessions.new.items (map.get (contents nat_cmp indices.now) q)
+        ≡ cond (q == client) false (changed_at sessions.old.items (map.get (contents nat_cmp indices.now) q)) }
+{
+    if let Some(i) = indices.get(&client).copied() {
+        sessions[i].clear_changed();
     }
 }
