@@ -1,5 +1,5 @@
 -- What the table without its rooms says of the sessions with them.
-use Rattle.sessions.proofs.Common.{AreIndexed, Bool, Entry, List, None, Option, Reply, Row, Rows, Table, Session, Some, T, [], ap, ap₂, arith, below_all, cond, entries_sorted, eq-eqb, eq_by_cmp, eqb-true, false, false≢true, find, forget_first, get-empty, get-entries, get-from_sorted, get-insert, get-retain_keys, get_or, get_or-append_seam, get_or-set_at, get_or-set_other, get_or_append_left, get_or_default, is_kept_at, is_from, is_lt, is_sorted, length, length-append, nat_cmp, nat_cmp-IsAntisymmetric, nat_cmp_total, no_row, no_session, none-some, noted, noted_row, option_map, refl, row_at, row_or_none, row_with_aside, same_Some, same_map, set, subst, sym, trimmed_found, trimmed_row, true, unsigned_tied, ℕ, ◌&&◌, ◌++◌, ◌<◌, ◌==◌, ◌∙◌, ◌∷◌, ◌≡◌, ◌≢◌}
+use Rattle.sessions.proofs.Common.{AreIndexed, Bool, Entry, List, None, Option, Reply, Row, Rows, Table, Session, Some, T, [], ap, ap₂, arith, below_all, cond, entries_sorted, eq-eqb, eq_by_cmp, eqb-true, false, false≢true, find, forget_first, get-empty, get-entries, get-from_sorted, get-insert, get-retain_keys, get_or, get_or-append_seam, get_or-set_at, get_or-set_other, get_or_append_left, get_or_default, is_kept_at, is_from, is_lt, is_some, is_sorted, length, length-append, nat_cmp, nat_cmp-IsAntisymmetric, nat_cmp_total, no_row, no_session, none-some, noted, noted_row, option_map, refl, row_at, row_or_none, row_with_aside, same_Some, same_map, set, subst, sym, trimmed_found, trimmed_row, true, unsigned_tied, ℕ, ◌&&◌, ◌++◌, ◌<◌, ◌==◌, ◌∙◌, ◌∷◌, ◌≡◌, ◌≢◌}
 use Rattle.std.proofs.Common.{map as list_map}
 use Rattle.std.specs.FinMap as map
 use Rattle.sessions.specs.Rooms.{rows}
@@ -31,6 +31,17 @@ get-rows m ss client =
     get-from_sorted nat_cmp _ client (subst T (sym (sorted_bare ss (map.entries m))) (entries_sorted m))
     ∙ find_bare ss client (map.entries m)
     ∙ ap (option_map (row_at ss)) (sym (get-entries m client))
+
+-- a client has a row where it has a session
+pub row_there : (m : map.FinMap nat_cmp ℕ) (ss : List Session) (client : ℕ) → is_some (map.get (rows m ss) client) ≡ is_some (map.get m client)
+row_there m ss client = ap is_some (get-rows m ss client) ∙ go (map.get m client)
+  where
+    go : (o : Option ℕ) → is_some (option_map (row_at ss) o) ≡ is_some o
+    go None = refl
+    go (Some i) = refl
+
+pub no_row_there : (m : map.FinMap nat_cmp ℕ) (ss : List Session) (client : ℕ) → map.get m client ≡ None → map.get (rows m ss) client ≡ None
+no_row_there m ss client none = get-rows m ss client ∙ ap (option_map (row_at ss)) none
 
 -- the table of these rows
 abbrev pub behind : ℕ → Rows → Table
