@@ -1,3 +1,4 @@
+pub mod AlikeLaws
 pub mod AsideLaws
 pub mod ChangedLaws
 pub mod Common

@@ -191,7 +191,7 @@ module _ (m : map.FinMap nat_cmp ℕ) (ss : List Session) (client : ℕ) where
         only one other i false e true f a b = let low = h.in_range one i a in absurd (omega (arith, low, same_Some (length ss) i b))
         only one other i false e false f a b = h.apart one other i a b
 
-    rows_more : rows (map.insert m client (length ss)) (ss ++ w ∷ []) ≡ map.insert (rows m ss) client w.row
+    pub rows_more : rows (map.insert m client (length ss)) (ss ++ w ∷ []) ≡ map.insert (rows m ss) client w.row
     rows_more = same_map nat_cmp_total nat_cmp-IsAntisymmetric _ _ (λ q.
         get-rows (map.insert m client (length ss)) (ss ++ w ∷ []) q
         ∙ ap (option_map (row_at (ss ++ w ∷ []))) (get_with m client (length ss) q)
