@@ -62,6 +62,21 @@ module _ (table : Table) (forgotten client : ℕ) (row : Row) where
 
 -- ---- a client was taken
 
+-- how many entries tell a mark
+pub tells_one : (client m : ℕ) → 0 < m → length (told_mark client m) ≡ 1
+tells_one client m low = go (m == 0) refl
+  where
+    go : (b : Bool) → (m == 0) ≡ b → length (cond b [] (stand_in client m 0 Done ∷ [])) ≡ 1
+    go true is = absurd (omega (arith, low, eqb-true m 0 is))
+    go false is = refl
+
+pub tells_none : (client m : ℕ) → m ≤ 0 → length (told_mark client m) ≡ 0
+tells_none client m high = go (m == 0) refl
+  where
+    go : (b : Bool) → (m == 0) ≡ b → length (cond b [] (stand_in client m 0 Done ∷ [])) ≡ 0
+    go true is = refl
+    go false is = absurd (false≢true (sym is ∙ eq-eqb m 0 (omega (arith, high))))
+
 -- with another row that says the same
 module _ (whole : List Entry) (table : Table) (h : IsTableOf whole table) (aside : AreSetAside whole [] table) (forgotten : ℕ) (long : forgotten ≡ table.forgotten) (client : ℕ) (row : Row)
     (marked : row.mark ≡ mark_in table client) (kept : (t : ℕ) → map.get row.kept t ≡ kept_in table client t) (told_aside : (t : ℕ) → map.get row.aside t ≡ aside_in table client t) where

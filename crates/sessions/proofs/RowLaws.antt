@@ -1,5 +1,5 @@
 -- What the table without its rooms says of the sessions with them.
-use Rattle.sessions.proofs.Common.{AreIndexed, Bool, Entry, List, None, Option, Reply, Row, Rows, Table, Session, Some, T, [], ap, ap₂, arith, below_all, cond, entries_sorted, eq-eqb, eq_by_cmp, eqb-true, false, false≢true, find, forget_first, get-empty, get-entries, get-from_sorted, get-insert, get-retain_keys, get_or, get_or-append_seam, get_or-set_at, get_or-set_other, get_or_append_left, get_or_default, is_kept_at, is_from, is_lt, is_some, is_sorted, length, length-append, nat_cmp, nat_cmp-IsAntisymmetric, nat_cmp_total, no_row, no_session, none-some, noted, noted_row, option_map, refl, row_at, row_or_none, row_with_aside, same_Some, same_map, set, subst, sym, trimmed_found, trimmed_row, true, unsigned_tied, ℕ, ◌&&◌, ◌++◌, ◌<◌, ◌==◌, ◌∙◌, ◌∷◌, ◌≡◌, ◌≢◌}
+use Rattle.sessions.proofs.Common.{AreIndexed, Bool, Entry, List, None, Option, Reply, Row, Rows, Table, Session, Some, T, [], ap, ap₂, arith, below_all, cond, entries_sorted, eq-eqb, eq_by_cmp, eqb-true, false, false≢true, find, forget_first, get-empty, get-entries, get-from_sorted, get-insert, get-retain_keys, get_or, get_or-append_seam, get_or-set_at, get_or-set_other, get_or_append_left, get_or_default, is_kept_at, is_from, is_lt, is_some, is_sorted, length, length-append, nat_cmp, nat_cmp-IsAntisymmetric, nat_cmp_total, no_row, no_session, none-some, noted, noted_row, option_map, refl, row_at, row_or_none, row_with_aside, row_with_told, with_told, same_Some, same_map, set, subst, sym, trimmed_found, trimmed_row, true, unsigned_tied, ℕ, ◌&&◌, ◌++◌, ◌<◌, ◌==◌, ◌∙◌, ◌∷◌, ◌≡◌, ◌≢◌}
 use Rattle.std.proofs.Common.{map as list_map}
 use Rattle.std.specs.FinMap as map
 use Rattle.sessions.specs.Rooms.{rows}
@@ -135,6 +135,12 @@ module _ (m : map.FinMap nat_cmp ℕ) (ss : List Session) (client : ℕ) where
         go : (o : Option ℕ) → option_map (row_at (set ss i w)) o ≡ option_map (row_at ss) o
         go None = refl
         go (Some j) = ap Some (at j (j == i) refl)
+
+    -- with one more reply as it was stored
+    pub told_known : (f : ℕ) (s : Session) → s ≡ get_or ss i s → (tid : ℕ) (reply : Reply) → w.row ≡ row_with_told s.row tid f reply
+        → rows m (set ss i w) ≡ (with_told (behind f (rows m ss)) client tid reply).rows
+    told_known f s found tid reply is =
+        written ∙ ap (map.insert (rows m ss) client) (is ∙ ap (λ row. row_with_told row tid f reply) (read s found ∙ sym (row_known i its)))
 
     -- with one more reply, and without the replies below its mark
     pub noted_known : (f : ℕ) (s : Session) → s ≡ get_or ss i s → (tid oldest place : ℕ) → w.row ≡ noted_row s.row tid oldest place

@@ -70,9 +70,11 @@ impl Sessions {
         ensures unfit { IfErr result (IsUnfitReply (table self.old) client tid) }
     {
         let Some(i) = self.find(client).session else {
+            drop(reply);
             return Err(Unfit::NoClient);
         };
         if self.forgotten == MOST_FORGOTTEN {
+            drop(reply);
             return Err(Unfit::NoMemory);
         }
         self.sessions[i].restore(tid, self.forgotten, reply)?;
