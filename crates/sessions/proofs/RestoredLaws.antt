@@ -2,6 +2,9 @@
 use Rattle.sessions.proofs.Common.{ArePairsOnce, AreSetAside, IsPairAt, Bool, Entry, IsAsideFor, IsKeptFor, IsRestored, IsTableOf, List, None, Option, Reply, Row, Some, Stored, Table, TakesClient, TakesReply, [], ap, ap₂, append-nil, arith, aside_in, cond, eq-eqb, eqb-true, false, false≢true, get-empty, get-insert, get_or-append_seam, is_pair, is_some, kept_in, length, length-append, list_any, list_any-append, list_any_at, mark, mark_in, mark_of, mark_stored, marked_row, max, nat_cmp, nat_cmp_total, nat_eq_equiv, no_row, no_table, none-some, of_mark, or-false, refl, reply_in, reply_of, reply_stored, row_in, row_or_none, row_with_told, slice_index_or, stand_in, stored_of, subst, sym, told, told_mark, true, unsigned_tied, with_client, with_reply, with_told, ℕ, ◌&&◌, ◌+◌, ◌++◌, ◌<◌, ◌==◌, ◌||◌, ◌∙◌, ◌∷◌, ◌≡◌, ◌≤◌}
 use Rattle.std.specs.FinMap as map
 use Rattle.mds_types.specs.declared.replies.Reply.TheVariants.{Done}
+use Rattle.sessions.specs.Restored.{IsUnfitFor, IsUnfitReply}
+use Rattle.sessions.specs.declared.restoring.Unfit.{Unfit}
+use Rattle.sessions.specs.declared.restoring.Unfit.TheVariants.{BelowMark, ClientTwice, NoClient, NoMemory, ReplyTwice}
 use Rattle.sessions.proofs.AsideLaws.{aside_none}
 use Rattle.sessions.proofs.StoredLaws.{aside_next, aside_up, asides, last_unknown, long, new_pair, none_aside, none_of, once_more, pairs_more, reply_more, stored_with, table_next, told_marked, told_replied}
 use Rattle.sessions.proofs.TableLaws.{mark-push, others_kept, table-none}
@@ -223,6 +226,14 @@ module _ (stored : List Stored) (table : Table) (client m : ℕ) (h : IsRestored
       }
 
 -- ---- a reply was taken
+
+-- or it wasn't, as its client's row says
+pub unfit_reply : (table : Table) (client tid : ℕ) (row : Row) → row ≡ row_in table client → (reason : Unfit) → IsUnfitFor row tid reason → IsUnfitReply table client tid reason
+unfit_reply table client tid row is ClientTwice why = absurd why
+unfit_reply table client tid row is NoClient why = absurd why
+unfit_reply table client tid row is BelowMark why = subst (λ (r : Row). tid < r.mark) is why
+unfit_reply table client tid row is ReplyTwice why = ap (λ (r : Row). is_some (map.get r.kept tid)) (sym is) ∙ why
+unfit_reply table client tid row is NoMemory why = tt
 
 module _ (stored : List Stored) (s : Stored) (table : Table) (tid : ℕ) (reply : Reply) (h : IsRestored (stored ++ s ∷ []) table)
     (low : mark_in table s.client ≤ tid) (none : kept_in table s.client tid ≡ None) where
