@@ -1,6 +1,6 @@
 -- The history that clients were told answers each request as the one that it was stored of.
-use Rattle.sessions.proofs.Common.{ArePairsOnce, Bool, Entry, IsAsideFor, IsKeptFor, IsPairAt, IsRestored, IsStoredOf, List, None, Option, Reply, Some, Stored, Table, [], ap, arith, aside_in, cond, false, inl, inr, is_pair, is_some, kept_in, length, list_any, list_any_at, mark, mark_in, refl, reply_to, same_Some, slice_index_or, stand_in, subst, sym, told, true, ℕ, ⊎_elim, ◌++◌, ◌<◌, ◌∙◌, ◌≡◌, ◌≤◌}
-use Rattle.mds_types.specs.History.{IsKeptAt, IsNew, IsTrimmed}
+use Rattle.sessions.proofs.Common.{ArePairsOnce, Entry, IsAsideFor, IsKeptFor, IsRestored, IsStoredOf, List, None, Option, Reply, Some, Stored, Table, ap, arith, aside_in, cond, inl, inr, is_pair, is_some, kept_in, list_any, mark, reply_to, same_Some, stand_in, subst, sym, told, ℕ, ⊎_elim, ◌<◌, ◌∙◌, ◌≡◌, ◌≤◌}
+use Rattle.mds_types.specs.History.{IsNew}
 use Rattle.mds_types.specs.declared.replies.Reply.TheVariants.{Done}
 use Rattle.sessions.specs.Replies.{AnswerAlike}
 use Rattle.sessions.proofs.ReplyLaws.{none_replied, replied, reply_of_pair}

@@ -1,5 +1,5 @@
 -- Which clients are changed.
-use Rattle.sessions.proofs.Common.{AreIndexed, AreListed, Bool, not, take, ◌&&◌, ◌+◌, List, None, Option, Session, Some, [], ap, arith, changed_at, cond, eq-eqb, eqb-true, false, false≢true, get-empty, get_or-append_seam, get_or-set_at, get_or-set_other, get_or_append_left, get_or_default, get_or, is_among, length, list_any, list_any-append, list_any_more, nat_cmp, nat_eq_equiv, no_session, none-some, or-false, refl, same_Some, set, subst, sym, true, with_changed, ℕ, ◌++◌, ◌<◌, ◌==◌, ◌||◌, ◌∙◌, ◌∷◌, ◌≡◌, ◌≢◌}
+use Rattle.sessions.proofs.Common.{AreIndexed, AreListed, Bool, not, take, ◌&&◌, ◌+◌, List, None, Option, Session, Some, [], ap, changed_at, cond, eq-eqb, eqb-true, false, false≢true, get-empty, get_or-append_seam, get_or-set_at, get_or-set_other, get_or_append_left, get_or_default, get_or, is_among, length, list_any-append, list_any_more, nat_cmp, nat_eq_equiv, no_session, none-some, or-false, refl, same_Some, set, sym, true, with_changed, ℕ, ◌++◌, ◌<◌, ◌==◌, ◌||◌, ◌∙◌, ◌∷◌, ◌≡◌}
 use Rattle.std.specs.FinMap as map
 use Rattle.sessions.proofs.RowLaws.{get_with}
 

@@ -1,12 +1,12 @@
 -- Sessions that begin again from what was stored.
-use Rattle.sessions.proofs.Common.{ArePairsOnce, AreSetAside, IsPairAt, Bool, Entry, IsAsideFor, IsKeptFor, IsRestored, IsTableOf, List, None, Option, Reply, Row, Some, Stored, Table, TakesClient, TakesReply, [], ap, ap₂, append-nil, arith, aside_in, cond, eq-eqb, eqb-true, false, false≢true, get-empty, get-insert, get_or-append_seam, is_pair, is_some, kept_in, length, length-append, list_any, list_any-append, list_any_at, mark, mark_in, mark_of, mark_stored, marked_row, max, nat_cmp, nat_cmp_total, nat_eq_equiv, no_row, no_table, none-some, of_mark, or-false, refl, reply_in, reply_of, reply_stored, row_in, row_or_none, row_with_told, slice_index_or, stand_in, stored_of, subst, sym, told, told_mark, true, unsigned_tied, with_client, with_reply, with_told, ℕ, ◌&&◌, ◌+◌, ◌++◌, ◌<◌, ◌==◌, ◌||◌, ◌∙◌, ◌∷◌, ◌≡◌, ◌≤◌}
+use Rattle.sessions.proofs.Common.{ArePairsOnce, AreSetAside, IsPairAt, Bool, Entry, IsAsideFor, IsKeptFor, IsRestored, IsTableOf, List, None, Option, Reply, Row, Some, Stored, Table, [], ap, ap₂, append-nil, arith, aside_in, cond, eq-eqb, eqb-true, false, false≢true, get-empty, get-insert, get_or-append_seam, is_pair, is_some, kept_in, length, length-append, list_any, list_any-append, mark, mark_in, mark_of, marked_row, max, nat_cmp, nat_cmp_total, nat_eq_equiv, no_row, no_table, none-some, of_mark, refl, reply_in, reply_of, row_in, row_or_none, row_with_told, slice_index_or, stand_in, stored_of, subst, sym, told, told_mark, true, unsigned_tied, with_client, with_reply, with_told, ℕ, ◌&&◌, ◌+◌, ◌++◌, ◌<◌, ◌==◌, ◌||◌, ◌∙◌, ◌∷◌, ◌≡◌, ◌≤◌}
 use Rattle.std.specs.FinMap as map
 use Rattle.mds_types.specs.declared.replies.Reply.TheVariants.{Done}
 use Rattle.sessions.specs.Restored.{IsUnfitFor, IsUnfitReply}
 use Rattle.sessions.specs.declared.restoring.Unfit.{Unfit}
 use Rattle.sessions.specs.declared.restoring.Unfit.TheVariants.{BelowMark, ClientTwice, NoClient, NoMemory, ReplyTwice}
 use Rattle.sessions.proofs.AsideLaws.{aside_none}
-use Rattle.sessions.proofs.StoredLaws.{aside_next, aside_up, asides, last_unknown, long, new_pair, none_aside, none_of, once_more, pairs_more, reply_more, stored_with, table_next, told_marked, told_replied}
+use Rattle.sessions.proofs.StoredLaws.{aside_next, aside_up, asides, last_unknown, new_pair, none_aside, none_of, once_more, pairs_more, reply_more, stored_with, table_next, told_marked, told_replied}
 use Rattle.sessions.proofs.TableLaws.{mark-push, others_kept, table-none}
 
 row_none : (table : Table) (q : ℕ) → map.get table.rows q ≡ None → row_in table q ≡ no_row
@@ -130,7 +130,6 @@ module _ (stored : List Stored) (table : Table) (client m : ℕ) (h : IsRestored
 
   unheard : (tid : ℕ) → list_any (is_pair client tid) (told stored) ≡ false
   unheard tid = new_pair (told stored) table h.tabled h.aside client tid (omega (arith, unmarked)) (unkept tid)
-
 
   unaside : (tid : ℕ) → aside_in table client tid ≡ None
   unaside tid = none_aside (told stored) table h.tabled h.aside client tid (unkept tid)

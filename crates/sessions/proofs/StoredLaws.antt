@@ -1,10 +1,9 @@
 -- What is stored, the history that the clients were told, and the table of it with one entry more.
-use Rattle.sessions.proofs.Common.{AreClientsOnce, ArePairsOnce, AreSetAside, Bool, Entry, IsAsideFor, IsKeptFor, IsPairAt, IsRestored, IsTableOf, List, None, Option, Reply, Row, Some, Stored, Table, TakesClient, TakesReply, [], and_parts, ap, ap₂, append-nil, append_assoc, arith, aside_in, cond, eq-eqb, eqb-true, false, false≢true, get-empty, get-insert, get_or-append_seam, get_or_append_left, is_pair, is_some, kept_in, length, length-append, list_any, list_any-append, list_any_at, map-append, mark, mark_in, mark_of, mark_stored, marked_row, max, nat_cmp, nat_cmp_total, nat_eq_equiv, no_row, no_table, none-some, of_mark, refl, reply_in, reply_of, reply_stored, row_in, row_or_none, row_with_told, slice_index_or, stand_in, stored_of, subst, sym, take, take-append-le, take-append_seam, told, told_mark, told_of, true, unsigned_tied, with_client, with_reply, with_told, ℕ, ◌&&◌, ◌+◌, ◌++◌, ◌<◌, ◌==◌, ◌||◌, ◌∙◌, ◌∷◌, ◌≡◌, ◌≤◌}
+use Rattle.sessions.proofs.Common.{AreClientsOnce, ArePairsOnce, AreSetAside, Bool, Entry, IsAsideFor, IsKeptFor, IsTableOf, List, None, Option, Reply, Row, Some, Stored, Table, [], ap, ap₂, append-nil, append_assoc, arith, aside_in, cond, eq-eqb, eqb-true, false, false≢true, get-insert, get_or-append_seam, get_or_append_left, is_pair, is_some, kept_in, length, length-append, list_any, map-append, mark, mark_in, max, nat_cmp_total, nat_eq_equiv, none-some, of_mark, refl, reply_in, row_in, row_or_none, slice_index_or, stand_in, stored_of, subst, sym, take, take-append-le, take-append_seam, told, told_mark, told_of, true, unsigned_tied, with_reply, ℕ, ◌&&◌, ◌+◌, ◌++◌, ◌<◌, ◌==◌, ◌∙◌, ◌∷◌, ◌≡◌, ◌≤◌}
 use Rattle.std.proofs.Common.{map as list_map}
 use Rattle.std.specs.FinMap as map
-use Rattle.mds_types.specs.declared.replies.Reply.TheVariants.{Done}
-use Rattle.sessions.proofs.AsideLaws.{aside_none, still_aside}
-use Rattle.sessions.proofs.TableLaws.{mark-push, others_kept, table-none}
+use Rattle.sessions.proofs.AsideLaws.{still_aside}
+use Rattle.sessions.proofs.TableLaws.{mark-push, others_kept}
 
 -- ---- what is stored
 

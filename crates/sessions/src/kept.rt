@@ -50,6 +50,9 @@ impl<'a> Iterator for Replies<'a> {
     fn next(&mut self) -> Option<(u64, &'a Reply)> {
         let client = self.client;
         let (tid, place) = self.places.next()?;
-        Some((*tid, client.told(self.history, self.forgotten, *tid, *place)))
+        Some((
+            *tid,
+            client.told(self.history, self.forgotten, *tid, *place),
+        ))
     }
 }

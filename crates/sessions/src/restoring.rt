@@ -5,7 +5,7 @@ ghost use Rattle.sessions.specs.Restored.{IsUnfitClient, IsUnfitReply, TakesClie
 ghost use Rattle.sessions.specs.Rooms.{table};
 
 use crate::clients::Client;
-use crate::session_table::{add, Sessions, MOST_FORGOTTEN};
+use crate::session_table::{MOST_FORGOTTEN, Sessions, add};
 use mds_types::Reply;
 use std::alloc::{AllocError, Global};
 

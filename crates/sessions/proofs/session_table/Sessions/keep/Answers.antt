@@ -6,9 +6,12 @@ use Rattle.sessions.proofs.session_table.Sessions.keep.Goals as goal
 
 pub invariant_of-self-in-None : goal.invariant_of-self-in-None
 invariant_of-self-in-None c =
-    let none : map.get (contents nat_cmp c.self.inside.indices) c.args.at.client ≡ None = ap (λ (h : Held). map.get h.indices c.args.at.client) c.self.view_is ∙ c.requires.there ∙ c.in-None.is in
-    (rw (c.add.ensures, c.push_reserved-in-None-2.ensures.items, c.len-i.ensures, c.self.inside.sessions.ok.0) (indexed_more (contents nat_cmp c.self.inside.indices) c.self.inside.sessions.items c.args.at.client c.self.invariant.0 c.keep-in-None.new.self none), rw c.take.ensures.after tt, c.self.invariant.2,
-    rw (c.add.ensures, c.push_reserved-in-None.ensures.items, c.push_reserved-in-None-2.ensures.items, c.len-i.ensures, c.self.inside.sessions.ok.0) (listed_first (contents nat_cmp c.self.inside.indices) c.self.inside.sessions.items c.self.inside.changed.items c.self.invariant.3 c.args.at.client c.self.invariant.0 c.keep-in-None.new.self none c.keep-in-None.ensures.changed))
+    let none : map.get (contents nat_cmp c.self.inside.indices) c.args.at.client ≡ None = ap (λ (h : Held). map.get h.indices c.args.at.client) c.self.view_is ∙ c.requires.there ∙ c.in-None.is in (
+      rw (c.add.ensures, c.push_reserved-in-None-2.ensures.items, c.len-i.ensures, c.self.inside.sessions.ok.0) (indexed_more (contents nat_cmp c.self.inside.indices) c.self.inside.sessions.items c.args.at.client c.self.invariant.0 c.keep-in-None.new.self none),
+      rw c.take.ensures.after tt,
+      c.self.invariant.2,
+      rw (c.add.ensures, c.push_reserved-in-None.ensures.items, c.push_reserved-in-None-2.ensures.items, c.len-i.ensures, c.self.inside.sessions.ok.0) (listed_first (contents nat_cmp c.self.inside.indices) c.self.inside.sessions.items c.self.inside.changed.items c.self.invariant.3 c.args.at.client c.self.invariant.0 c.keep-in-None.new.self none c.keep-in-None.ensures.changed),
+    )
 
 pub returns-then-keep-clause-kept : goal.returns-then-keep-clause-kept
 returns-then-keep-clause-kept c =

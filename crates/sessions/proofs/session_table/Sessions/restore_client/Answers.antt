@@ -1,4 +1,4 @@
-use Rattle.sessions.proofs.Common.{IfSome, List, None, Option, Session, Some, T, [], ap, ap₂, arith, contents, is_some, length, marked_row, nat_cmp, no_row, rows, subst, sym, told_mark, vec_capacity, vec_len, ℕ, ◌+◌, ◌++◌, ◌<◌, ◌∙◌, ◌∷◌, ◌≡◌}
+use Rattle.sessions.proofs.Common.{IfSome, None, Option, Session, Some, [], ap, ap₂, arith, contents, length, nat_cmp, no_row, rows, sym, told_mark, ◌+◌, ◌++◌, ◌<◌, ◌∙◌, ◌∷◌, ◌≡◌}
 use Rattle.std.specs.FinMap as map
 use Rattle.sessions.proofs.ChangedLaws.{listed_still}
 use Rattle.sessions.proofs.RestoredLaws.{tells_none, tells_one}
@@ -22,8 +22,7 @@ invariant_of-self-then-mark-gt0 c =
     let none : map.get m c.args.client ≡ None = none_of (map.get m c.args.client) (sym c.contains.ensures ∙ c.if-contains.false) in
     let indices : contents nat_cmp c.add.new.indices ≡ map.insert m c.args.client (length ss) =
     c.add.ensures ∙ ap₂ (λ a n. map.insert a c.args.client n) c.reserve.ensures.same (c.len-i.ensures ∙ c.reserve-2.ensures.len ∙ c.self.inside.sessions.ok.0) in
-    let items : c.push_reserved.new.self.items ≡ ss ++ c.marked.result ∷ [] = c.push_reserved.ensures.items ∙ ap (λ l. l ++ c.marked.result ∷ []) c.reserve-2.ensures.items in
-    (
+    let items : c.push_reserved.new.self.items ≡ ss ++ c.marked.result ∷ [] = c.push_reserved.ensures.items ∙ ap (λ l. l ++ c.marked.result ∷ []) c.reserve-2.ensures.items in (
       rw (indices, items) (indexed_more m ss c.args.client c.self.invariant.0 c.marked.result none),
       still_fits c.self.inside.spare _ _ (omega (arith, c.push_reserved.ensures.len, c.push_reserved.ensures.capacity, c.in_ok-reserve-2.ensures.ok)) c.self.invariant.1,
       omega (arith, c.self.invariant.2, c.if-self-eq-MOST_FORGOTTEN.false),
@@ -37,8 +36,7 @@ invariant_of-self-else-mark-gt0 c =
     let none : map.get m c.args.client ≡ None = none_of (map.get m c.args.client) (sym c.contains.ensures ∙ c.if-contains.false) in
     let indices : contents nat_cmp c.add.new.indices ≡ map.insert m c.args.client (length ss) =
     c.add.ensures ∙ ap₂ (λ a n. map.insert a c.args.client n) c.reserve.ensures.same (c.len-i.ensures ∙ c.reserve-2.ensures.len ∙ c.self.inside.sessions.ok.0) in
-    let items : c.push_reserved.new.self.items ≡ ss ++ c.marked.result ∷ [] = c.push_reserved.ensures.items ∙ ap (λ l. l ++ c.marked.result ∷ []) c.reserve-2.ensures.items in
-    (
+    let items : c.push_reserved.new.self.items ≡ ss ++ c.marked.result ∷ [] = c.push_reserved.ensures.items ∙ ap (λ l. l ++ c.marked.result ∷ []) c.reserve-2.ensures.items in (
       rw (indices, items) (indexed_more m ss c.args.client c.self.invariant.0 c.marked.result none),
       still_fits c.self.inside.spare _ _ (omega (arith, c.push_reserved.ensures.len, c.push_reserved.ensures.capacity, c.in_ok-reserve-2.ensures.ok)) c.self.invariant.1,
       c.self.invariant.2,

@@ -1,4 +1,4 @@
-use Rattle.sessions.proofs.Common.{Held, None, Option, Row, Some, ap, contents, is_some, nat_cmp, rows, subst, sym, ◌+◌, ◌∙◌, ◌≡◌, ◌≤◌}
+use Rattle.sessions.proofs.Common.{Held, None, Row, Some, ap, contents, is_some, nat_cmp, rows, subst, sym, ◌+◌, ◌∙◌, ◌≡◌, ◌≤◌}
 use Rattle.std.specs.FinMap as map
 use Rattle.std.proofs.Common.{Err, IfErr, IsErrAnd, Ok, OnErr, Result}
 use Rattle.sessions.proofs.RestoredLaws.{unfit_reply}
