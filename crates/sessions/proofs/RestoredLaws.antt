@@ -1,5 +1,5 @@
 -- Sessions that begin again from what was stored.
-use Rattle.sessions.proofs.Common.{ArePairsOnce, AreSetAside, IsPairAt, Bool, Entry, IsAsideFor, IsKeptFor, IsRestored, IsTableOf, List, None, Option, Reply, Row, Some, Stored, Table, [], ap, ap₂, append-nil, arith, aside_in, cond, eq-eqb, eqb-true, false, false≢true, get-empty, get-insert, get_or-append_seam, is_pair, is_some, kept_in, length, length-append, list_any, list_any-append, mark, mark_in, mark_of, marked_row, max, nat_cmp, nat_cmp_total, nat_eq_equiv, no_row, no_table, none-some, of_mark, refl, reply_in, reply_of, row_in, row_or_none, row_with_told, slice_index_or, stand_in, stored_of, subst, sym, told, told_mark, true, unsigned_tied, with_client, with_reply, with_told, ℕ, ◌&&◌, ◌+◌, ◌++◌, ◌<◌, ◌==◌, ◌||◌, ◌∙◌, ◌∷◌, ◌≡◌, ◌≤◌}
+use Rattle.sessions.proofs.Common.{reply_stored, ArePairsOnce, AreSetAside, IsPairAt, Bool, Entry, IsAsideFor, IsKeptFor, IsRestored, IsTableOf, List, None, Option, Reply, Row, Some, Stored, Table, [], ap, ap₂, append-nil, arith, aside_in, cond, eq-eqb, eqb-true, false, false≢true, get-empty, get-insert, get_or-append_seam, is_pair, is_some, kept_in, length, length-append, list_any, list_any-append, mark, mark_in, mark_of, marked_row, max, nat_cmp, nat_cmp_total, nat_eq_equiv, no_row, no_table, none-some, of_mark, refl, reply_in, reply_of, row_in, row_or_none, row_with_told, slice_index_or, stand_in, stored_of, subst, sym, told, told_mark, true, unsigned_tied, with_client, with_reply, with_told, ℕ, ◌&&◌, ◌+◌, ◌++◌, ◌<◌, ◌==◌, ◌||◌, ◌∙◌, ◌∷◌, ◌≡◌, ◌≤◌}
 use Rattle.std.specs.FinMap as map
 use Rattle.mds_types.specs.declared.replies.Reply.TheVariants.{Done}
 use Rattle.sessions.specs.Restored.{IsUnfitFor, IsUnfitReply}
@@ -23,6 +23,17 @@ restored_none = record {
   aside = aside_none;
   once = λ k e low. absurd (omega (arith, low));
 }
+
+-- of a pair a reply is kept where one is stored
+pub kept_stored : (stored : List Stored) (table : Table) (client tid : ℕ) → IsRestored stored table → is_some (kept_in table client tid) ≡ is_some (reply_stored stored client tid)
+kept_stored stored table client tid h =
+    go (kept_in table client tid) (aside_in table client tid) (h.tabled.replies client tid) (asides (told stored) table h.tabled h.aside client tid) ∙ ap is_some (h.replies client tid)
+  where
+    go : (o : Option ℕ) (a : Option Reply) → IsKeptFor (told stored) client tid o → IsAsideFor (told stored) table.forgotten o a → is_some o ≡ is_some a
+    go None None k s = refl
+    go None (Some reply) k s = absurd s
+    go (Some place) None (_, stands) s = absurd (omega (arith, stands.in_range, s, h.aside.before))
+    go (Some place) (Some reply) k s = refl
 
 -- with a row more, or another
 module _ (table : Table) (forgotten client : ℕ) (row : Row) where

@@ -1,11 +1,11 @@
 -- The sessions that begin again from what was stored.
-use Rattle.std.specs.Prelude.{◌≡◌, ℕ, ◌<◌, ◌≤◌, ◌+◌, true, List, [], is_some, length, None}
+use Rattle.std.specs.Prelude.{◌≡◌, ℕ, ◌<◌, ◌≤◌, ◌+◌, true, List, [], is_some, length, None, option_map}
 use Rattle.std.specs.FinMap as map
 use Rattle.mds_types.specs.declared.entries.Entry.{Entry}
 use Rattle.mds_types.specs.declared.replies.Reply.{Reply}
 use Rattle.mds_types.specs.History.{mark}
 use Rattle.sessions.specs.Aside.{AreSetAside}
-use Rattle.sessions.specs.Replies.{ArePairsOnce, kept_reply}
+use Rattle.sessions.specs.Replies.{ArePairsOnce, kept_replies, kept_reply}
 use Rattle.sessions.specs.Stored.{AreClientsOnce, Stored, mark_stored, reply_stored, stored_of, told, told_mark}
 use Rattle.sessions.specs.Table.{IsTableOf, Row, Table, aside_in, kept_in, mark_in, row_in}
 use Rattle.sessions.specs.declared.restoring.Unfit.{Unfit}
@@ -78,6 +78,16 @@ IsUnfitReply table client tid NoClient = map.get table.rows client ≡ None
 IsUnfitReply table client tid BelowMark = tid < mark_in table client
 IsUnfitReply table client tid ReplyTwice = is_some (kept_in table client tid) ≡ true
 IsUnfitReply table client tid NoMemory = Unit {0}
+
+-- what is kept of a client, as it is stored,
+abbrev pub row_stored : List Entry → Table → (client : ℕ) → Stored
+row_stored history table client =
+    record { client = client; mark = mark_in table client; replies = kept_replies history table client }
+
+-- and so of each client that is there
+abbrev pub AreRowsOf : List Entry → Table → List Stored → Type 0
+AreRowsOf history table stored = (client : ℕ)
+    → stored_of stored client ≡ option_map (λ _. row_stored history table client) (map.get table.rows client)
 
 -- what was stored is what a history keeps of each client
 pub record IsStoredOf (history : List Entry) (stored : List Stored) : Type 0 where

@@ -211,9 +211,9 @@ impl Client {
         may_move && self.set_aside(first.tid, &mut first.reply).is_ok()
     }
 
-    /// Takes a reply as it was stored, whose entry had this place and is forgotten.
-    pub(crate) fn restore(&mut self, tid: u64, place: usize, reply: Reply) -> Result<(), Unfit>
-        ensures taken { OnOk result (TakesToldReply self.old.row self.new.row tid place reply) }
+    /// Takes a reply as it was stored, whose entry was at this place and is forgotten.
+    pub(crate) fn restore(&mut self, tid: u64, at: usize, reply: Reply) -> Result<(), Unfit>
+        ensures taken { OnOk result (TakesToldReply self.old.row self.new.row tid at reply) }
         ensures same { OnErr result (self.new.row ≡ self.old.row) }
         ensures changed { self.new.changed ≡ self.old.changed }
         ensures unfit { IfErr result (IsUnfitFor self.old.row tid) }
@@ -224,9 +224,9 @@ impl Client {
         if self.kept.contains(&tid) {
             return Err(Unfit::ReplyTwice);
         }
-        self.kept.reserve(1)?;
+        self.reserve()?;
         self.aside.reserve(1)?;
-        let _ = self.kept.insert(tid, place);
+        let _ = self.kept.insert(tid, at);
         let _ = self.aside.insert(tid, reply);
         Ok(())
     }

@@ -1,5 +1,5 @@
 //! The laws of the table that sees a history grow and be forgotten. A law is its contract: its body does nothing.
-ghost use Rattle.std.specs.Prelude.{◌≡◌, ◌++◌, ◌∷◌, [], ℕ, false, true, List, length};
+ghost use Rattle.std.specs.Prelude.{◌≡◌, ◌++◌, ◌∷◌, [], ℕ, false, true, is_some, List, length};
 ghost use Rattle.std.specs.List.{list_any};
 ghost use Rattle.std.specs.FinMap.{is_sorted};
 ghost use Rattle.std.specs.Ordering.{nat_cmp};
@@ -8,9 +8,9 @@ ghost use Rattle.mds_types.specs.declared.entries.Entry.{Entry as Applied};
 ghost use Rattle.mds_types.specs.declared.replies.Reply.{Reply};
 ghost use Rattle.sessions.specs.Aside.{AreSetAside, forget_all};
 ghost use Rattle.sessions.specs.Replies.{AnswerAlike, ArePairsOnce, kept_replies, kept_reply};
-ghost use Rattle.sessions.specs.Restored.{IsRestored, IsStoredOf, TakesClient, TakesReply};
-ghost use Rattle.sessions.specs.Stored.{Stored, of_mark, reply_in, told, with_reply};
-ghost use Rattle.sessions.specs.Table.{IsTableOf, Table, no_table, noted, trimmed};
+ghost use Rattle.sessions.specs.Restored.{AreRowsOf, IsRestored, IsStoredOf, TakesClient, TakesReply};
+ghost use Rattle.sessions.specs.Stored.{Stored, of_mark, reply_in, reply_stored, told, with_reply};
+ghost use Rattle.sessions.specs.Table.{IsTableOf, Table, kept_in, no_table, noted, trimmed};
 
 /// The table of a history, in which the reply of one more entry was kept and that entry's client trimmed, is the table
 /// of the history with that entry: what `keep` and then `trim` leave.
@@ -43,6 +43,8 @@ pub fn restored_sessions_follow()
     ensures reply { (stored : List Stored) (s : Stored) (old new : Table) (tid : ℕ) (reply : Reply)
         → IsRestored (stored ++ s ∷ []) old → TakesReply old new s.client tid reply
         → IsRestored (stored ++ with_reply s tid reply ∷ []) new }
+    ensures kept { (stored : List Stored) (table : Table) (client tid : ℕ) → IsRestored stored table
+        → is_some (kept_in table client tid) ≡ is_some (reply_stored stored client tid) }
 {}
 
 /// Where what was stored is what a history keeps, each request is to what its clients were told what it is to the
@@ -53,11 +55,15 @@ pub fn restored_sessions_answer_alike()
 {}
 
 /// What is kept of a client are the replies that the history keeps, in the order of their transaction numbers: that of
-/// each pair which isn't below the client's mark.
+/// each pair which isn't below the client's mark. So what is stored of each client that is there is what the history
+/// keeps.
 pub fn kept_replies_are_the_histories()
     ensures replies { (past history : List Applied) (table : Table) (client tid : ℕ) → IsTableOf (past ++ history) table
         → AreSetAside past history table → ArePairsOnce (past ++ history)
         → reply_in (kept_replies history table client) tid ≡ kept_reply (past ++ history) client tid }
     ensures order { (history : List Applied) (table : Table) (client : ℕ)
         → is_sorted nat_cmp (kept_replies history table client) ≡ true }
+    ensures stored { (past history : List Applied) (table : Table) (stored : List Stored)
+        → IsTableOf (past ++ history) table → AreSetAside past history table → ArePairsOnce (past ++ history)
+        → AreRowsOf history table stored → IsStoredOf (past ++ history) stored }
 {}
