@@ -7,7 +7,7 @@ pub listed_none : AreListed map.empty [] []
 listed_none = λ q. sym (ap (changed_at []) (get-empty nat_cmp q))
 
 -- with one more at the end
-among_more : (l : List ℕ) (client q : ℕ) → is_among (l ++ client ∷ []) q ≡ (is_among l q || (client == q))
+pub among_more : (l : List ℕ) (client q : ℕ) → is_among (l ++ client ∷ []) q ≡ (is_among l q || (client == q))
 among_more l client q = list_any-append (λ c. c == q) l (client ∷ []) ∙ ap (λ b. is_among l q || b) (or-false (client == q))
 
 by_test : (a b : Bool) → cond b true a ≡ (a || b)

@@ -8,3 +8,4 @@ pub mod RowLaws
 pub mod StoredLaws
 pub mod TableLaws
 pub mod WalkLaws
+pub mod WrittenLaws

@@ -2,7 +2,7 @@
 use Rattle.sessions.proofs.Common.{AllByRecursion, Row, ArePairsOnce, AreRowsOf, AreSetAside, IsStoredOf, Stored, get-empty, mark_in, mark_of, option_map, reply_of, row_or_none, row_stored, Bool, Entry, Equal, Greater, IsAsideFor, IsInReach, IsKeptFor, IsPairAt, IsReplyAt, IsReplyIn, IsTableOf, Less, List, None, Option, Ordering, Reply, Some, T, Table, [], and_parts, ap, ap₂, arith, aside_in, below_all, cond, entries_sorted, eq-eqb, eq_by_cmp, eqb-true, false, false≢true, find, get-entries, get_or_default, is_from, is_lt, is_pair, is_some, is_sorted, kept_in, kept_replies, le_from_is_le, kept_reply, length, list_any, mark, nat_cmp, none-some, ranked, refl, replies_at, reply_in, reply_to, row_in, slice_index_or, stand_in, subst, suc, sym, take, told_reply, true, unsigned_tied, zero, ℕ, ◌&&◌, ◌++◌, ◌-◌, ◌<◌, ◌==◌, ◌||◌, ◌∙◌, ◌∷◌, ◌≡◌, ◌≤◌}
 use Rattle.std.specs.FinMap as map
 use Rattle.mds_types.specs.declared.replies.Reply.TheVariants.{Done}
-use Rattle.sessions.proofs.TableLaws.{is_from_le, kept_within, told_at}
+use Rattle.sessions.proofs.TableLaws.{mark-push, is_from_le, kept_within, told_at}
 
 -- ---- the pairs of a map
 
@@ -65,11 +65,11 @@ module _ (history : List Entry) (forgotten : ℕ) (aside : map.FinMap nat_cmp Re
   sorted_replies (e ∷ es) = ap₂ (λ a b. a && b) (below_replies e.0 es) (sorted_replies es)
 
   -- the reply of a place that was found
-  abbrev reply_at : ℕ → Option ℕ → Option Reply
+  abbrev pub reply_at : ℕ → Option ℕ → Option Reply
   reply_at tid None = None
   reply_at tid (Some place) = Some (told_reply history forgotten place (map.get aside tid))
 
-  reply_found : (es : List (ℕ × ℕ)) (tid : ℕ) → reply_in (replies_at history forgotten aside es) tid ≡ reply_at tid (find nat_cmp tid es)
+  pub reply_found : (es : List (ℕ × ℕ)) (tid : ℕ) → reply_in (replies_at history forgotten aside es) tid ≡ reply_at tid (find nat_cmp tid es)
   reply_found [] tid = refl
   reply_found (e ∷ es) tid = go (e.0 == tid) refl (eq_by_cmp nat_cmp tid e.0) (unsigned_tied tid e.0) (reply_found es tid)
     where
@@ -153,21 +153,3 @@ kept_is past history table client tid h aside once =
         marked place reply low stands (told_at past history table.forgotten place aside.before (Some place) refl (aside_in table client tid) reply
         (subst (IsAsideFor (past ++ history) table.forgotten (Some place)) (sym aside_is) s)
         (is_reply place (aside_in table client tid) (λ none. kept_within past history table client tid place h aside is none)))
-
--- and what is stored of each client that is there is what the history keeps of it
-pub rows_of : (past history : List Entry) (table : Table) (stored : List Stored) → IsTableOf (past ++ history) table → AreSetAside past history table → ArePairsOnce (past ++ history)
-    → AreRowsOf history table stored → IsStoredOf (past ++ history) stored
-rows_of past history table stored h aside once is = record {
-  marks = λ q. ap mark_of (is q) ∙ mark_found q (map.get table.rows q) refl ∙ h.marks q;
-  replies = λ q tid. ap (λ o. reply_of o tid) (is q) ∙ reply_kept q tid (map.get table.rows q) refl ∙ kept_is past history table q tid h aside once;
-}
-  where
-    mark_found : (q : ℕ) (o : Option Row) → map.get table.rows q ≡ o → mark_of (option_map (λ _. row_stored history table q) o) ≡ mark_in table q
-    mark_found q None none = ap (λ o. (row_or_none o).mark) (sym none)
-    mark_found q (Some row) there = refl
-
-    reply_kept : (q tid : ℕ) (o : Option Row) → map.get table.rows q ≡ o → reply_of (option_map (λ _. row_stored history table q) o) tid ≡ reply_in (kept_replies history table q) tid
-    reply_kept q tid None none = sym (
-        reply_found history table.forgotten (row_in table q).aside (map.entries (row_in table q).kept) tid
-        ∙ ap (reply_at history table.forgotten (row_in table q).aside tid) (sym (get-entries (row_in table q).kept tid) ∙ ap (λ o. map.get (row_or_none o).kept tid) none ∙ get-empty nat_cmp tid))
-    reply_kept q tid (Some row) there = refl

@@ -1,11 +1,12 @@
 -- The sessions that begin again from what was stored.
-use Rattle.std.specs.Prelude.{◌≡◌, ℕ, ◌<◌, ◌≤◌, ◌+◌, true, List, [], is_some, length, None, option_map}
+use Rattle.std.specs.Prelude.{◌≡◌, ℕ, ◌<◌, ◌≤◌, ◌+◌, cond, false, true, List, [], is_some, length, None, option_map}
 use Rattle.std.specs.FinMap as map
 use Rattle.mds_types.specs.declared.entries.Entry.{Entry}
 use Rattle.mds_types.specs.declared.replies.Reply.{Reply}
 use Rattle.mds_types.specs.History.{mark}
 use Rattle.sessions.specs.Aside.{AreSetAside}
 use Rattle.sessions.specs.Replies.{ArePairsOnce, kept_replies, kept_reply}
+use Rattle.sessions.specs.Rooms.{is_among}
 use Rattle.sessions.specs.Stored.{AreClientsOnce, Stored, mark_stored, reply_stored, stored_of, told, told_mark}
 use Rattle.sessions.specs.Table.{IsTableOf, Row, Table, aside_in, kept_in, mark_in, row_in}
 use Rattle.sessions.specs.declared.restoring.Unfit.{Unfit}
@@ -93,6 +94,18 @@ AreRowsOf history table stored = (client : ℕ)
 pub record IsStoredOf (history : List Entry) (stored : List Stored) : Type 0 where
   pub marks : (client : ℕ) → mark_stored stored client ≡ mark history client
   pub replies : (client tid : ℕ) → reply_stored stored client tid ≡ kept_reply history client tid
+
+-- and so of each client that isn't changed
+pub record IsStoredBut (history : List Entry) (changed : List ℕ) (stored : List Stored) : Type 0 where
+  pub marks : (client : ℕ) → is_among changed client ≡ false → mark_stored stored client ≡ mark history client
+  pub replies : (client tid : ℕ) → is_among changed client ≡ false
+      → reply_stored stored client tid ≡ kept_reply history client tid
+
+-- what is kept of the changed clients was stored, and what was stored of the others stays
+abbrev pub IsWritten : List Entry → Table → (changed : List ℕ) → (stored new : List Stored) → Type 0
+IsWritten history table changed stored new = (client : ℕ) → stored_of new client
+    ≡ cond (is_among changed client) (option_map (λ _. row_stored history table client) (map.get table.rows client))
+    (stored_of stored client)
 
 -- the table is that of what was stored: each client with its mark and its replies, and the table of the history that
 -- they were told, all of which is forgotten

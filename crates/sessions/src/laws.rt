@@ -8,7 +8,8 @@ ghost use Rattle.mds_types.specs.declared.entries.Entry.{Entry as Applied};
 ghost use Rattle.mds_types.specs.declared.replies.Reply.{Reply};
 ghost use Rattle.sessions.specs.Aside.{AreSetAside, forget_all};
 ghost use Rattle.sessions.specs.Replies.{AnswerAlike, ArePairsOnce, kept_replies, kept_reply};
-ghost use Rattle.sessions.specs.Restored.{AreRowsOf, IsRestored, IsStoredOf, TakesClient, TakesReply};
+ghost use Rattle.sessions.specs.Restored.{AreRowsOf, IsRestored, IsStoredBut, IsStoredOf, IsWritten, TakesClient, TakesReply};
+ghost use Rattle.sessions.specs.Rooms.{with_changed};
 ghost use Rattle.sessions.specs.Stored.{Stored, of_mark, reply_in, reply_stored, told, with_reply};
 ghost use Rattle.sessions.specs.Table.{IsTableOf, Table, kept_in, no_table, noted, trimmed};
 
@@ -66,4 +67,18 @@ pub fn kept_replies_are_the_histories()
     ensures stored { (past history : List Applied) (table : Table) (stored : List Stored)
         → IsTableOf (past ++ history) table → AreSetAside past history table → ArePairsOnce (past ++ history)
         → AreRowsOf history table stored → IsStoredOf (past ++ history) stored }
+{}
+
+/// What is stored of a client that isn't changed is what the history keeps of it, whatever request is applied; and so of
+/// each client, once what is kept of the changed ones is stored.
+pub fn unchanged_clients_stay_stored()
+    ensures none { (history : List Applied) (stored : List Stored) → IsStoredOf history stored
+        → IsStoredBut history [] stored }
+    ensures applied { (history : List Applied) (changed : List ℕ) (stored : List Stored) (entry : Applied)
+        → IsStoredBut history changed stored
+        → IsStoredBut (history ++ entry ∷ []) (with_changed changed entry.client) stored }
+    ensures written { (past history : List Applied) (table : Table) (changed : List ℕ) (stored new : List Stored)
+        → IsTableOf (past ++ history) table → AreSetAside past history table → ArePairsOnce (past ++ history)
+        → IsStoredBut (past ++ history) changed stored → IsWritten history table changed stored new
+        → IsStoredOf (past ++ history) new }
 {}

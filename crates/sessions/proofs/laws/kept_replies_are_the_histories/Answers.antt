@@ -1,6 +1,7 @@
 use Rattle.sessions.proofs.Common.{row_in, ◌∙◌}
 use Rattle.std.specs.FinMap as map
-use Rattle.sessions.proofs.ReplyLaws.{kept_is, rows_of, sorted_entries, sorted_replies}
+use Rattle.sessions.proofs.ReplyLaws.{kept_is, sorted_entries, sorted_replies}
+use Rattle.sessions.proofs.WrittenLaws.{rows_of}
 use Rattle.sessions.proofs.laws.kept_replies_are_the_histories.Goals as goal
 
 pub returns-clause-replies : goal.returns-clause-replies
