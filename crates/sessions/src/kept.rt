@@ -49,10 +49,8 @@ impl<'a> Iterator for Replies<'a> {
 
     fn next(&mut self) -> Option<(u64, &'a Reply)> {
         let client = self.client;
-        let (tid, place) = self.places.next()?;
-        Some((
-            *tid,
-            client.told(self.history, self.forgotten, *tid, *place),
-        ))
+        let (tid, place) = *self.places.next()?;
+        let reply = client.told(self.history, self.forgotten, tid, place);
+        Some((tid, reply))
     }
 }
