@@ -21,7 +21,7 @@ aside_none = record { before = refl; aside = λ client tid. go (kept_in no_table
 -- ---- a request was applied
 
 -- what is set aside stays so behind one entry more
-still_aside : (whole : List Entry) (e : Entry) (forgotten : ℕ) → forgotten ≤ length whole → (o : Option ℕ) (a : Option Reply) → IsAsideFor whole forgotten o a → IsAsideFor (whole ++ e ∷ []) forgotten o a
+pub still_aside : (whole : List Entry) (e : Entry) (forgotten : ℕ) → forgotten ≤ length whole → (o : Option ℕ) (a : Option Reply) → IsAsideFor whole forgotten o a → IsAsideFor (whole ++ e ∷ []) forgotten o a
 still_aside whole e forgotten few None None h = h
 still_aside whole e forgotten few None (Some reply) h = h
 still_aside whole e forgotten few (Some place) None h = h

@@ -1,5 +1,11 @@
+pub mod AlikeLaws
 pub mod AsideLaws
+pub mod ChangedLaws
 pub mod Common
+pub mod ReplyLaws
+pub mod RestoredLaws
 pub mod RowLaws
+pub mod StoredLaws
 pub mod TableLaws
 pub mod WalkLaws
+pub mod WrittenLaws

@@ -1,5 +1,5 @@
 -- What the table without its rooms says of the sessions with them.
-use Rattle.sessions.proofs.Common.{AreIndexed, Bool, Entry, List, None, Option, Reply, Row, Rows, Table, Session, Some, T, [], ap, ap₂, arith, below_all, cond, entries_sorted, eq-eqb, eq_by_cmp, eqb-true, false, false≢true, find, forget_first, get-empty, get-entries, get-from_sorted, get-insert, get-retain_keys, get_or, get_or-append_seam, get_or-set_at, get_or-set_other, get_or_append_left, get_or_default, is_kept_at, is_from, is_lt, is_sorted, length, length-append, nat_cmp, nat_cmp-IsAntisymmetric, nat_cmp_total, no_row, no_session, none-some, noted, noted_row, option_map, refl, row_at, row_or_none, row_with_aside, same_Some, same_map, set, subst, sym, trimmed_found, trimmed_row, true, unsigned_tied, ℕ, ◌&&◌, ◌++◌, ◌<◌, ◌==◌, ◌∙◌, ◌∷◌, ◌≡◌, ◌≢◌}
+use Rattle.sessions.proofs.Common.{AreIndexed, Bool, Entry, List, None, Option, Reply, Row, Rows, Table, Session, Some, T, [], ap, ap₂, arith, below_all, cond, entries_sorted, eq-eqb, eq_by_cmp, eqb-true, false, false≢true, find, forget_first, get-empty, get-entries, get-from_sorted, get-insert, get-retain_keys, get_or, get_or-append_seam, get_or-set_at, get_or-set_other, get_or_append_left, get_or_default, is_kept_at, is_from, is_lt, is_some, is_sorted, length, length-append, nat_cmp, nat_cmp-IsAntisymmetric, nat_cmp_total, no_row, no_session, none-some, noted, noted_row, option_map, refl, row_at, row_or_none, row_with_aside, row_with_told, with_told, same_Some, same_map, set, subst, sym, trimmed_found, trimmed_row, true, unsigned_tied, ℕ, ◌&&◌, ◌++◌, ◌<◌, ◌==◌, ◌∙◌, ◌∷◌, ◌≡◌, ◌≢◌}
 use Rattle.std.proofs.Common.{map as list_map}
 use Rattle.std.specs.FinMap as map
 use Rattle.sessions.specs.Rooms.{rows}
@@ -32,12 +32,31 @@ get-rows m ss client =
     ∙ find_bare ss client (map.entries m)
     ∙ ap (option_map (row_at ss)) (sym (get-entries m client))
 
+-- a client has a row where it has a session
+pub row_there : (m : map.FinMap nat_cmp ℕ) (ss : List Session) (client : ℕ) → is_some (map.get (rows m ss) client) ≡ is_some (map.get m client)
+row_there m ss client = ap is_some (get-rows m ss client) ∙ go (map.get m client)
+  where
+    go : (o : Option ℕ) → is_some (option_map (row_at ss) o) ≡ is_some o
+    go None = refl
+    go (Some i) = refl
+
+pub no_row_there : (m : map.FinMap nat_cmp ℕ) (ss : List Session) (client : ℕ) → map.get m client ≡ None → map.get (rows m ss) client ≡ None
+no_row_there m ss client none = get-rows m ss client ∙ ap (option_map (row_at ss)) none
+
 -- the table of these rows
 abbrev pub behind : ℕ → Rows → Table
 behind forgotten rows = record { forgotten = forgotten; rows = rows }
 
 pub same_behind : (f : ℕ) (r s : Rows) → r ≡ s → behind f r ≡ behind f s
 same_behind f r s e = ap (behind f) e
+
+-- the same rows, in sessions that differ in their rooms or marks of change
+pub rows_alike : (m : map.FinMap nat_cmp ℕ) (ss new : List Session) → ((i : ℕ) → row_at new i ≡ row_at ss i) → rows m new ≡ rows m ss
+rows_alike m ss new same = same_map nat_cmp_total nat_cmp-IsAntisymmetric _ _ (λ q. get-rows m new q ∙ go (map.get m q) ∙ sym (get-rows m ss q))
+  where
+    go : (o : Option ℕ) → option_map (row_at new) o ≡ option_map (row_at ss) o
+    go None = refl
+    go (Some i) = ap Some (same i)
 
 -- no sessions have no rows, and each a place of its own
 pub rows-empty : rows map.empty [] ≡ map.empty
@@ -117,6 +136,12 @@ module _ (m : map.FinMap nat_cmp ℕ) (ss : List Session) (client : ℕ) where
         go None = refl
         go (Some j) = ap Some (at j (j == i) refl)
 
+    -- with one more reply as it was stored
+    pub told_known : (f : ℕ) (s : Session) → s ≡ get_or ss i s → (tid : ℕ) (reply : Reply) → w.row ≡ row_with_told s.row tid f reply
+        → rows m (set ss i w) ≡ (with_told (behind f (rows m ss)) client tid reply).rows
+    told_known f s found tid reply is =
+        written ∙ ap (map.insert (rows m ss) client) (is ∙ ap (λ row. row_with_told row tid f reply) (read s found ∙ sym (row_known i its)))
+
     -- with one more reply, and without the replies below its mark
     pub noted_known : (f : ℕ) (s : Session) → s ≡ get_or ss i s → (tid oldest place : ℕ) → w.row ≡ noted_row s.row tid oldest place
         → rows m (set ss i w) ≡ (noted (behind f (rows m ss)) client tid oldest place).rows
@@ -172,7 +197,7 @@ module _ (m : map.FinMap nat_cmp ℕ) (ss : List Session) (client : ℕ) where
         only one other i false e true f a b = let low = h.in_range one i a in absurd (omega (arith, low, same_Some (length ss) i b))
         only one other i false e false f a b = h.apart one other i a b
 
-    rows_more : rows (map.insert m client (length ss)) (ss ++ w ∷ []) ≡ map.insert (rows m ss) client w.row
+    pub rows_more : rows (map.insert m client (length ss)) (ss ++ w ∷ []) ≡ map.insert (rows m ss) client w.row
     rows_more = same_map nat_cmp_total nat_cmp-IsAntisymmetric _ _ (λ q.
         get-rows (map.insert m client (length ss)) (ss ++ w ∷ []) q
         ∙ ap (option_map (row_at (ss ++ w ∷ []))) (get_with m client (length ss) q)

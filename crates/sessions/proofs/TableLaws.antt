@@ -2,7 +2,7 @@
 use Rattle.sessions.proofs.Common.{AreSetAside, IsAsideFor, IsReplyAt, IsReplyIn, Reply, aside_in, get_or-append-add, no_table, none-some, same_Some, slice_index_or, ◌+◌, ◌-◌, Bool, Entry, Equal, Greater, IsKeptFor, IsSeen, IsTableOf, Kept, Less, List, New, None, Option, Ordering, Row, Seen, SeesInRow, IsPairAt, Some, Table, Trimmed, [], ap, arith, cond, eq-eqb, eq_by_cmp, eqb-true, false, false≢true, get-empty, get-insert, get-retain_keys, get_or-append_seam, get_or_append_left, inl, inr, is_from, is_le, is_pair, kept_in, le_from_is_le, length, length-append, list_any-append, mark, max, nat_cmp, nat_cmp-IsAntisymmetric, nat_cmp_total, nat_eq_equiv, noted, noted_row, or-false, ranked, refl, row_in, row_or_none, subst, sym, trimmed, trimmed_found, trimmed_row, true, unsigned_tied, ℕ, ⊎_elim, ◌&&◌, ◌++◌, ◌<◌, ◌==◌, ◌||◌, ◌∙◌, ◌∷◌, ◌≡◌, ◌≤◌}
 use Rattle.std.specs.FinMap as map
 
-is_from_le : {a b : ℕ} → a ≤ b → is_le (nat_cmp a b) ≡ true
+pub is_from_le : {a b : ℕ} → a ≤ b → is_le (nat_cmp a b) ≡ true
 is_from_le {a} {b} low = go (nat_cmp a b) refl
   where
     go : (r : Ordering) → r ≡ nat_cmp a b → is_le r ≡ true
@@ -34,7 +34,7 @@ table-none = record {
 }
 
 -- the reply that was set aside, or that of the entry which isn't forgotten, is that of its place
-told_at : (past history : List Entry) (forgotten place : ℕ) → length past ≡ forgotten → (o : Option ℕ) → o ≡ Some place → (a : Option Reply) → (reply : Reply)
+pub told_at : (past history : List Entry) (forgotten place : ℕ) → length past ≡ forgotten → (o : Option ℕ) → o ≡ Some place → (a : Option Reply) → (reply : Reply)
     → IsAsideFor (past ++ history) forgotten o a → IsReplyIn history forgotten place a reply → IsReplyAt (past ++ history) place reply
 told_at past history forgotten place long None is a reply h told = absurd (none-some place is)
 told_at past history forgotten place long (Some at) is (Some aside) reply (_, h) told = λ e.
@@ -89,7 +89,7 @@ still_there past e client tid place h = record {
 }
 
 -- what is kept for another pair than the entry's
-others_kept : (past : List Entry) (e : Entry) (client tid : ℕ) → is_pair client tid e ≡ false → mark past client ≤ mark (past ++ e ∷ []) client
+pub others_kept : (past : List Entry) (e : Entry) (client tid : ℕ) → is_pair client tid e ≡ false → mark past client ≤ mark (past ++ e ∷ []) client
     → (mark past client ≤ tid → mark (past ++ e ∷ []) client ≤ tid) → (o : Option ℕ) → IsKeptFor past client tid o → IsKeptFor (past ++ e ∷ []) client tid o
 others_kept past e client tid other rises stays (Some place) (marked, h) = (stays marked, still_there past e client tid place h)
 others_kept past e client tid other rises stays None absent =

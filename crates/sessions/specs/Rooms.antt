@@ -1,5 +1,6 @@
 -- The session table as it is kept, with the room that was reserved in it.
-use Rattle.std.specs.Prelude.{◌≡◌, ℕ, ◌<◌, List, length, get_or, Option, Some, None, IsSome, map}
+use Rattle.std.specs.Prelude.{◌≡◌, ℕ, ◌<◌, ◌++◌, ◌==◌, Bool, false, true, cond, List, [], ◌∷◌, length, get_or, Option, Some, None, IsSome, map}
+use Rattle.std.specs.List.{list_any}
 use Rattle.std.specs.Ordering.{nat_cmp}
 use Rattle.std.specs.FinMap as map
 use Rattle.sessions.specs.declared.found.SessionAt.{SessionAt}
@@ -7,23 +8,27 @@ use Rattle.sessions.specs.declared.clients.Seen.{Seen}
 use Rattle.sessions.specs.declared.clients.Seen.TheVariants.{New, Kept, Trimmed}
 use Rattle.sessions.specs.Table.{Row, Rows, Table, no_row}
 
--- a client's row, and how many more replies fit with no growth
+-- a client's row, how many more replies fit with no growth, and whether the client is changed
 pub record Session : Type 0 where
   pub row : Row
   pub room : ℕ
+  pub changed : Bool
 
--- how many entries are forgotten, the index of each client's session, the sessions, how many more clients fit, and the
--- session that was made ready for the next
+-- how many entries are forgotten, the index of each client's session, the sessions, how many more clients fit, the
+-- session that was made ready for the next, the clients that are changed, in the order in which they became so, and
+-- whether one more of them fits
 pub record Held : Type 0 where
   pub forgotten : ℕ
   pub indices : map.FinMap nat_cmp ℕ
   pub sessions : List Session
   pub room : ℕ
   pub spare : Option Session
+  pub changed : List ℕ
+  pub changed_fits : Bool
 
 -- the session of a client of which nothing is known
 abbrev pub no_session : Session
-no_session = record { row = no_row; room = 0 }
+no_session = record { row = no_row; room = 0; changed = false }
 
 -- the session at an index, and its row
 abbrev pub session_at : List Session → ℕ → Session
@@ -45,14 +50,32 @@ pub record AreIndexed (indices : map.FinMap nat_cmp ℕ) (sessions : List Sessio
   pub in_range : (client i : ℕ) → map.get indices client ≡ Some i → i < length sessions
   pub apart : (one other i : ℕ) → map.get indices one ≡ Some i → map.get indices other ≡ Some i → one ≡ other
 
+-- whether a client is one of these
+abbrev pub is_among : List ℕ → (client : ℕ) → Bool
+is_among clients client = list_any (λ c. c == client) clients
+
+-- the clients, with one more if it isn't there
+abbrev pub with_changed : List ℕ → (client : ℕ) → List ℕ
+with_changed clients client = cond (is_among clients client) clients (clients ++ client ∷ [])
+
+-- whether the session that was found is that of a changed client
+abbrev pub changed_at : List Session → Option ℕ → Bool
+changed_at sessions None = false
+changed_at sessions (Some i) = (session_at sessions i).changed
+
+-- a client is in the list just where its session says that it's changed
+abbrev pub AreListed : map.FinMap nat_cmp ℕ → List Session → (changed : List ℕ) → Type 0
+AreListed indices sessions changed =
+    (client : ℕ) → is_among changed client ≡ changed_at sessions (map.get indices client)
+
 -- room for one more reply: in the session that was found, or for a client more and its session, made ready
 abbrev pub HasRoom : Held → Option ℕ → Type 0
 HasRoom held (Some i) = 0 < (session_at held.sessions i).room
 HasRoom held None = (0 < held.room) × IsSome held.spare
 
--- one more reply to the client can be kept with no growth
+-- one more reply to the client can be kept with no growth, and the client be listed
 abbrev pub IsReady : Held → ℕ → Type 0
-IsReady held client = HasRoom held (map.get held.indices client)
+IsReady held client = HasRoom held (map.get held.indices client) × (held.changed_fits ≡ true)
 
 -- a client's session is there, or nowhere, since nothing is known of the client
 abbrev pub IsSessionAt : Held → SessionAt → Type 0

@@ -6,9 +6,13 @@
 
 mod clients;
 mod found;
+mod kept;
 pub mod laws;
+mod restoring;
 mod session_table;
 
 pub use clients::Seen;
 pub use found::SessionAt;
+pub use kept::{ClientKept, Replies};
+pub use restoring::Unfit;
 pub use session_table::Sessions;

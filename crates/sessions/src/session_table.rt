@@ -1,5 +1,5 @@
 //! The session table and its calls.
-ghost use Rattle.std.specs.Prelude.{◌≡◌, ◌<◌, ◌≤◌, ◌^◌, ◌++◌, ◌∷◌, [], List, true, false, length, take, drop, vec_len, vec_capacity, IsOk, IfOk, OnOk, IfErr};
+ghost use Rattle.std.specs.Prelude.{◌≡◌, ◌<◌, ◌≤◌, ◌^◌, ◌++◌, ◌&&◌, ◌==◌, ◌∷◌, [], ℕ, List, true, false, not, cond, length, take, drop, vec_len, vec_capacity, IsOk, nat_lt, IfOk, OnErr, OnOk, IfErr};
 ghost use Rattle.std.specs.List.{slice_index_or};
 ghost use Rattle.std.specs.Ordering.{nat_cmp};
 ghost use Rattle.std.specs.FinMap as map;
@@ -7,11 +7,13 @@ ghost use Rattle.sorted_map.specs.SortedMap.{contents};
 ghost use Rattle.mds_types.specs.declared.entries.Entry.{Entry as Applied};
 ghost use Rattle.sessions.specs.Aside.{AreSetAside, StopsForgetting, forget_all, forget_first, keeps_first, released};
 ghost use Rattle.sessions.specs.Table.{no_row, no_table, noted, trimmed, IsTableOf};
-ghost use Rattle.sessions.specs.Rooms.{Held, IsReady, IsSessionAt, TellsSession, table};
+ghost use Rattle.sessions.specs.Kept.{IsKept};
+ghost use Rattle.sessions.specs.Rooms.{AreIndexed, Held, IsReady, IsSessionAt, TellsSession, changed_at, is_among, row_at, table, with_changed};
 ghost use Rattle.sessions.specs.Seen.{IsSeen};
 
 use crate::clients::{Client, Seen};
 use crate::found::SessionAt;
+use crate::kept::ClientKept;
 use mds_types::{Entry, Refusal};
 use sorted_map::SortedMap;
 use std::alloc::{AllocError, Global};
@@ -19,29 +21,31 @@ use std::fmt;
 use std::marker::Model;
 
 // The most entries that are forgotten: with any history behind them their number is one of 64 bits.
-const MOST_FORGOTTEN: usize = 4_611_686_018_427_387_904;
+pub(crate) const MOST_FORGOTTEN: usize = 4_611_686_018_427_387_904;
 
 /// What is known of every client: its mark, and where in the history its kept replies are, those at or above it. Places
 /// are counted from the first entry ever. Of the history a beginning may be forgotten: the kept replies of it stand here.
 #[derive(Drop)]
 pub struct Sessions {
     /// How many entries are forgotten.
-    forgotten: usize,
+    pub(crate) forgotten: usize,
     /// Where each client's session is, which it keeps for ever.
-    indices: SortedMap<u64, usize>,
-    sessions: Vec<Client>,
+    pub(crate) indices: SortedMap<u64, usize>,
+    pub(crate) sessions: Vec<Client>,
     /// A client of which nothing is known, made ready with room for one reply; `sessions` has room for it.
     spare: Option<Client>,
+    /// The clients that are changed: those whose sessions say so.
+    changed: Vec<u64>,
 }
 
 impl Model for Sessions {
-    ghost use Rattle.std.specs.Prelude.{◌≡◌, ◌<◌, ◌≤◌, ◌^◌, IfSome, vec_len, vec_capacity};
+    ghost use Rattle.std.specs.Prelude.{◌≡◌, ◌<◌, ◌≤◌, ◌^◌, IfSome, nat_lt, vec_len, vec_capacity};
     ghost use Rattle.std.specs.Ordering.{nat_cmp};
     ghost use Rattle.std.specs.Coded.{codes};
     ghost use Rattle.std.specs.FinMap as map;
     ghost use Rattle.sorted_map.specs.SortedMap.{contents};
     ghost use Rattle.sessions.specs.Table.{no_row};
-    ghost use Rattle.sessions.specs.Rooms.{AreIndexed, Held};
+    ghost use Rattle.sessions.specs.Rooms.{AreIndexed, AreListed, Held};
 
     ghost Value = { Held };
 
@@ -53,23 +57,28 @@ impl Model for Sessions {
       sessions = s.sessions.items;
       room = s.indices.room;
       spare = s.spare;
+      changed = s.changed.items;
+      changed_fits = nat_lt (vec_len s.changed) (vec_capacity s.changed);
     } };
 
     ghost invariant = { λ s. AreIndexed (contents nat_cmp s.indices) s.sessions.items
         × IfSome s.spare (λ spare. (spare.row ≡ no_row) × (0 < spare.room)
-        × (vec_len s.sessions < vec_capacity s.sessions)) × (s.forgotten ≤ 2 ^ 62) };
+        × (vec_len s.sessions < vec_capacity s.sessions)) × (s.forgotten ≤ 2 ^ 62)
+        × AreListed (contents nat_cmp s.indices) s.sessions.items s.changed.items };
 }
 
 impl Sessions {
     /// The table of no requests.
     pub fn new(alloc: Global) -> Sessions
-        ensures { table result ≡ no_table }
+        ensures empty { table result ≡ no_table }
+        ensures changed { result.changed ≡ [] }
     {
         Sessions {
             forgotten: 0,
             indices: SortedMap::new(alloc),
             sessions: Vec::new(alloc),
             spare: None,
+            changed: Vec::new(alloc),
         }
     }
 
@@ -101,7 +110,7 @@ impl Sessions {
     }
 
     // Where the session of a client is.
-    fn find(&self, client: u64) -> SessionAt
+    pub(crate) fn find(&self, client: u64) -> SessionAt
         ensures named { result.client ≡ client }
         ensures found { IsSessionAt self.now result }
     {
@@ -119,9 +128,11 @@ impl Sessions {
         ensures ready { OnOk result (IsReady self.new at.now.client) }
         ensures session { IsSessionAt self.new at.now }
         ensures same { table self.new ≡ table self.old }
+        ensures changed { self.new.changed ≡ self.old.changed }
         ensures there { IsReady self.old at.now.client → IsOk result × (self.new ≡ self.old) }
         ensures err { IfErr result (λ e. e ≡ Refusal.NoMemory) }
     {
+        place_for_one(&mut self.changed)?;
         if let Some(i) = at.session {
             self.sessions[i].reserve()?;
             return Ok(());
@@ -135,17 +146,21 @@ impl Sessions {
     }
 
     /// Keeps the reply to a request that was applied at this place of the history, for which room was made, and tells
-    /// where the client's session is then. It can't fail. The client's mark rises to the request's `oldest`.
+    /// where the client's session is then. It can't fail. The client's mark rises to the request's `oldest`, and the client
+    /// is changed.
     pub fn keep(&mut self, at: SessionAt, tid: u64, oldest: u64, place: usize) -> SessionAt
         requires there { IsSessionAt self.old at }
         requires ready { IsReady self.old at.client }
         ensures kept { table self.new ≡ noted (table self.old) at.client tid oldest place }
+        ensures changed { self.new.changed ≡ with_changed self.old.changed at.client }
         ensures named { result.client ≡ at.client }
         ensures session { IsSessionAt self.new result }
     {
         match at.session {
             Some(i) => {
-                self.sessions[i].keep(tid, oldest, place);
+                if self.sessions[i].keep(tid, oldest, place) {
+                    self.changed.push_reserved(at.client);
+                }
                 at
             }
             None => {
@@ -153,6 +168,7 @@ impl Sessions {
                     unreachable!()
                 };
                 fresh.keep(tid, oldest, place);
+                self.changed.push_reserved(at.client);
                 let i = self.sessions.len();
                 self.sessions.push_reserved(fresh);
                 add(&mut self.indices, at.client, i);
@@ -174,6 +190,7 @@ impl Sessions {
             → StopsForgetting (table self.new) (slice_index_or history.old.items result e) }
         ensures left { history.new.items ≡ drop result history.old.items }
         ensures aside { table self.new ≡ forget_all (table self.old) (take result history.old.items) }
+        ensures changed { self.new.changed ≡ self.old.changed }
     {
         let gone = self.forget_while(history, count, true);
         cut(history, gone);
@@ -190,6 +207,7 @@ impl Sessions {
         ensures left { history.new.items ≡ drop result history.old.items }
         ensures stays { (table self.new).rows ≡ (table self.old).rows }
         ensures aside { table self.new ≡ forget_all (table self.old) (take result history.old.items) }
+        ensures changed { self.new.changed ≡ self.old.changed }
     {
         let gone = self.forget_while(history, count, false);
         cut(history, gone);
@@ -207,6 +225,7 @@ impl Sessions {
         ensures long { length history.new.items ≡ length history.old.items }
         ensures stays { may_move ≡ false → (table self.new).rows ≡ (table self.old).rows }
         ensures aside { table self.new ≡ forget_all (table self.old) (take result history.old.items) }
+        ensures changed { self.new.changed ≡ self.old.changed }
     {
         for i in 0..count {
             if !self.forget_one(&mut history[i], may_move) {
@@ -224,6 +243,7 @@ impl Sessions {
         ensures entry { result ≡ false → first.new ≡ first.old }
         ensures stops { result ≡ false → StopsForgetting (table self.old) first.old }
         ensures stays { may_move ≡ false → (table self.new).rows ≡ (table self.old).rows }
+        ensures changed { self.new.changed ≡ self.old.changed }
     {
         if self.forgotten == MOST_FORGOTTEN {
             return false;
@@ -243,6 +263,7 @@ impl Sessions {
         ensures entry { result ≡ false → first.new ≡ first.old }
         ensures kept { result ≡ false → keeps_first (table self.old) first.old ≡ true }
         ensures stays { may_move ≡ false → (table self.new).rows ≡ (table self.old).rows }
+        ensures changed { self.new.changed ≡ self.old.changed }
     {
         match self.find(first.client).session {
             Some(i) => self.sessions[i].forget(first, self.forgotten, may_move),
@@ -250,13 +271,44 @@ impl Sessions {
         }
     }
 
-    /// Forgets the replies below its mark of the client whose session is there.
+    /// Forgets the replies below its mark of the client whose session is there. What is stored of the client stays.
     pub fn trim(&mut self, at: SessionAt)
         requires { IsSessionAt self.old at }
-        ensures { table self.new ≡ trimmed (table self.old) at.client }
+        ensures trimmed { table self.new ≡ trimmed (table self.old) at.client }
+        ensures changed { self.new.changed ≡ self.old.changed }
     {
         if let Some(i) = at.session {
             self.sessions[i].trim();
+        }
+    }
+
+    /// The clients whose mark or replies are others than when these clients were last cleared, in the order in which they
+    /// were first changed.
+    pub fn changed(&self) -> &[u64]
+        ensures { result.now ≡ self.now.changed }
+    {
+        &self.changed
+    }
+
+    /// No client is changed any more: what is kept of each is stored.
+    pub fn clear_changed(&mut self)
+        ensures none { self.new.changed ≡ [] }
+        ensures same { table self.new ≡ table self.old }
+    {
+        clear(&self.indices, &mut self.sessions, &self.changed);
+        self.changed.clear();
+    }
+
+    /// What is kept of a client, to be stored; nothing, where it isn't there. `history` has the entries that aren't
+    /// forgotten. Takes no memory.
+    pub fn kept<'a>(&'a self, history: &'a [Entry], client: u64) -> Option<ClientKept<'a>>
+        requires { (past : List Applied) × IsTableOf (past ++ history.now) (table self.now)
+            × AreSetAside past history.now (table self.now) }
+        ensures { IsKept history.entry.now (table self.now) client result }
+    {
+        match self.find(client).session {
+            Some(i) => Some(self.sessions[i].kept(history, self.forgotten)),
+            None => None,
         }
     }
 }
@@ -297,10 +349,50 @@ fn roomy(alloc: Global) -> Result<Client, AllocError>
     Ok(fresh)
 }
 
+// Makes room in the list of the changed clients for one more.
+fn place_for_one(changed: &mut Vec<u64>) -> Result<(), AllocError>
+    ensures same { changed.new.items ≡ changed.old.items }
+    ensures fits { OnOk result (nat_lt (vec_len changed.new) (vec_capacity changed.new) ≡ true) }
+    ensures refused { OnErr result (nat_lt (vec_len changed.new) (vec_capacity changed.new)
+        ≡ nat_lt (vec_len changed.old) (vec_capacity changed.old)) }
+    ensures there { nat_lt (vec_len changed.old) (vec_capacity changed.old) ≡ true → IsOk result }
+{
+    changed.reserve(1)
+}
+
 // Adds a client that isn't there yet, for which there is room.
-fn add(indices: &mut SortedMap<u64, usize>, client: u64, i: usize)
+pub(crate) fn add(indices: &mut SortedMap<u64, usize>, client: u64, i: usize)
     requires { 0 < indices.old.room }
     ensures { contents nat_cmp indices.new ≡ map.insert (contents nat_cmp indices.old) client i }
 {
     let _ = indices.insert(client, i);
+}
+
+// Of these clients none is changed any more.
+fn clear(indices: &SortedMap<u64, usize>, sessions: &mut Vec<Client>, changed: &[u64])
+    requires { AreIndexed (contents nat_cmp indices.now) sessions.old.items }
+    ensures rows { (i : ℕ) → row_at sessions.new.items i ≡ row_at sessions.old.items i }
+    ensures long { length sessions.new.items ≡ length sessions.old.items }
+    ensures capacity { vec_capacity sessions.new ≡ vec_capacity sessions.old }
+    ensures cleared { (client : ℕ) → changed_at sessions.new.items (map.get (contents nat_cmp indices.now) client)
+        ≡ changed_at sessions.old.items (map.get (contents nat_cmp indices.now) client)
+        && not (is_among changed.now client) }
+{
+    for client in changed {
+        clear_one(indices, sessions, *client);
+    }
+}
+
+// This client isn't changed any more.
+fn clear_one(indices: &SortedMap<u64, usize>, sessions: &mut Vec<Client>, client: u64)
+    requires { AreIndexed (contents nat_cmp indices.now) sessions.old.items }
+    ensures rows { (i : ℕ) → row_at sessions.new.items i ≡ row_at sessions.old.items i }
+    ensures long { length sessions.new.items ≡ length sessions.old.items }
+    ensures capacity { vec_capacity sessions.new ≡ vec_capacity sessions.old }
+    ensures cleared { (q : ℕ) → changed_at sessions.new.items (map.get (contents nat_cmp indices.now) q)
+        ≡ cond (q == client) false (changed_at sessions.old.items (map.get (contents nat_cmp indices.now) q)) }
+{
+    if let Some(i) = indices.get(&client).copied() {
+        sessions[i].clear_changed();
+    }
 }

@@ -14,6 +14,7 @@ loop-i-preserved c =
       long = length-set now i c.forget_one.new.first ∙ h.long;
       stays = λ not. c.forget_one.ensures.stays not ∙ h.stays not;
       aside = aside_on all now i h.left (table c.loop-i.self) (table c.forget_one.new.self) (table c.args.self.now) c.index_mut.result.now below c.index_mut.ensures.value h.aside (c.forget_one.ensures.gone c.if-not-forget_one.false);
+      changed = c.forget_one.ensures.changed ∙ h.changed;
     }
 
 pub returns-then-not-forget_one : goal.returns-then-not-forget_one
@@ -35,4 +36,5 @@ returns-then-not-forget_one c =
       long = length-set now i c.forget_one.new.first ∙ h.long;
       stays = λ still. c.forget_one.ensures.stays still ∙ h.stays still;
       aside = known ∙ h.aside;
+      changed = c.forget_one.ensures.changed ∙ h.changed;
     }

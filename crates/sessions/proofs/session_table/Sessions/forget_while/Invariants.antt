@@ -8,4 +8,5 @@ invariant-loop-i l = record {
   long : length l.history.items ≡ length l.fn.history.items;
   stays : l.may_move ≡ false → (table l.self).rows ≡ (table l.fn.self).rows;
   aside : table l.self ≡ forget_all (table l.fn.self) (take l.i l.fn.history.items);
+  changed : l.self.changed ≡ l.fn.self.changed;
 }

@@ -1,25 +1,35 @@
 use Rattle.sessions.proofs.Common.{Held, IfSome, None, Option, Session, Some, ap, cond, contents, eq-eqb, nat_cmp, no_row, refl, subst, sym, vec_capacity, vec_len, ◌<◌, ◌∙◌, ◌≡◌}
 use Rattle.std.specs.FinMap as map
+use Rattle.sessions.proofs.ChangedLaws.{listed_first}
 use Rattle.sessions.proofs.RowLaws.{get_with, indexed_more, noted_known, noted_first, same_behind}
 use Rattle.sessions.proofs.session_table.Sessions.keep.Goals as goal
 
 pub invariant_of-self-in-None : goal.invariant_of-self-in-None
 invariant_of-self-in-None c =
-    let none : map.get (contents nat_cmp c.self.inside.indices) c.args.at.client ≡ None = ap (λ (h : Held). map.get h.indices c.args.at.client) c.self.view_is ∙ c.requires.there ∙ c.in-None.is in
-    (rw (c.add.ensures, c.push_reserved.ensures.items, c.len-i.ensures, c.self.inside.sessions.ok.0) (indexed_more (contents nat_cmp c.self.inside.indices) c.self.inside.sessions.items c.args.at.client c.self.invariant.0 c.keep-in-None.new.self none), rw c.take.ensures.after tt, c.self.invariant.2)
+    let none : map.get (contents nat_cmp c.self.inside.indices) c.args.at.client ≡ None = ap (λ (h : Held). map.get h.indices c.args.at.client) c.self.view_is ∙ c.requires.there ∙ c.in-None.is in (
+      rw (c.add.ensures, c.push_reserved-in-None-2.ensures.items, c.len-i.ensures, c.self.inside.sessions.ok.0) (indexed_more (contents nat_cmp c.self.inside.indices) c.self.inside.sessions.items c.args.at.client c.self.invariant.0 c.keep-in-None.new.self none),
+      rw c.take.ensures.after tt,
+      c.self.invariant.2,
+      rw (c.add.ensures, c.push_reserved-in-None.ensures.items, c.push_reserved-in-None-2.ensures.items, c.len-i.ensures, c.self.inside.sessions.ok.0) (listed_first (contents nat_cmp c.self.inside.indices) c.self.inside.sessions.items c.self.inside.changed.items c.self.invariant.3 c.args.at.client c.self.invariant.0 c.keep-in-None.new.self none c.keep-in-None.ensures.changed),
+    )
 
-pub returns-in-Some-clause-kept : goal.returns-in-Some-clause-kept
-returns-in-Some-clause-kept c =
+pub returns-then-keep-clause-kept : goal.returns-then-keep-clause-kept
+returns-then-keep-clause-kept c =
     let its : map.get (contents nat_cmp c.self.inside.indices) c.args.at.client ≡ Some c.in-Some.i = ap (λ (h : Held). map.get h.indices c.args.at.client) c.self.view_is ∙ c.requires.there ∙ c.in-Some.is in
-    rw (← c.self.view_is) (same_behind c.self.inside.forgotten _ _ (noted_known (contents nat_cmp c.self.inside.indices) c.self.inside.sessions.items c.args.at.client c.self.invariant.0 c.in-Some.i its c.keep.new.self c.self.inside.forgotten c.index_mut.result.now c.index_mut.ensures.value _ _ _ c.keep.ensures))
+    rw (← c.self.view_is) (same_behind c.self.inside.forgotten _ _ (noted_known (contents nat_cmp c.self.inside.indices) c.self.inside.sessions.items c.args.at.client c.self.invariant.0 c.in-Some.i its c.keep.new.self c.self.inside.forgotten c.index_mut.result.now c.index_mut.ensures.value _ _ _ c.keep.ensures.row))
+
+pub returns-else-keep-clause-kept : goal.returns-else-keep-clause-kept
+returns-else-keep-clause-kept c =
+    let its : map.get (contents nat_cmp c.self.inside.indices) c.args.at.client ≡ Some c.in-Some.i = ap (λ (h : Held). map.get h.indices c.args.at.client) c.self.view_is ∙ c.requires.there ∙ c.in-Some.is in
+    rw (← c.self.view_is) (same_behind c.self.inside.forgotten _ _ (noted_known (contents nat_cmp c.self.inside.indices) c.self.inside.sessions.items c.args.at.client c.self.invariant.0 c.in-Some.i its c.keep.new.self c.self.inside.forgotten c.index_mut.result.now c.index_mut.ensures.value _ _ _ c.keep.ensures.row))
 
 -- the session that was set aside knows nothing yet
 pub returns-in-Some-take-clause-kept : goal.returns-in-Some-take-clause-kept
 returns-in-Some-take-clause-kept c =
     let none : map.get (contents nat_cmp c.self.inside.indices) c.args.at.client ≡ None = ap (λ (h : Held). map.get h.indices c.args.at.client) c.self.view_is ∙ c.requires.there ∙ c.in-None.is in
     let spare = subst (λ (o : Option Session). IfSome o (λ s. (s.row ≡ no_row) × (0 < s.room) × (vec_len c.self.inside.sessions < vec_capacity c.self.inside.sessions))) (sym c.take.ensures.value ∙ c.in-Some-take.is) c.self.invariant.1 in
-    rw (← c.self.view_is, c.add.ensures, c.push_reserved.ensures.items, c.len-i.ensures, c.self.inside.sessions.ok.0)
-    (same_behind c.self.inside.forgotten _ _ (noted_first (contents nat_cmp c.self.inside.indices) c.self.inside.sessions.items c.args.at.client c.self.invariant.0 c.keep-in-None.new.self c.self.inside.forgotten c.in-Some-take.fresh.row _ _ _ none spare.0 c.keep-in-None.ensures))
+    rw (← c.self.view_is, c.add.ensures, c.push_reserved-in-None-2.ensures.items, c.len-i.ensures, c.self.inside.sessions.ok.0)
+    (same_behind c.self.inside.forgotten _ _ (noted_first (contents nat_cmp c.self.inside.indices) c.self.inside.sessions.items c.args.at.client c.self.invariant.0 c.keep-in-None.new.self c.self.inside.forgotten c.in-Some-take.fresh.row _ _ _ none spare.0 c.keep-in-None.ensures.row))
 
 pub returns-in-Some-take-clause-session : goal.returns-in-Some-take-clause-session
 returns-in-Some-take-clause-session c =

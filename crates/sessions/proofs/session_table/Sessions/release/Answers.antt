@@ -20,6 +20,7 @@ returns-in-Some c =
       entry = c.forget.ensures.entry;
       kept = λ not. sym (kept_known m ss e.client c.self.invariant.0 c.in-Some.i its c.forget.new.self was found f e.tid) ∙ c.forget.ensures.kept not;
       stays = λ not. still (c.forget.ensures.stays not);
+      changed = refl;
     })
 
 pub returns-in-None-clause-gone : goal.returns-in-None-clause-gone
