@@ -5,8 +5,9 @@ ghost use Rattle.inode_table.specs.Numbers.{IsSupply};
 ghost use Rattle.mds_types.specs.declared.entries.Entry.{Entry as Applied};
 ghost use Rattle.sessions.specs.Rooms.{table};
 ghost use Rattle.mdcache.specs.Mounted.{IsColdTree, MayNotMount};
+ghost use Rattle.cluster_core.specs.Opening.{Opening};
 ghost use Rattle.cluster_core.specs.Resumed.{AreRaised, IsRaised, TellsAll, resumes};
-ghost use Rattle.cluster_core.specs.Sound.{StandsBehind, IsSoundKept};
+ghost use Rattle.cluster_core.specs.Sound.{StandsBehind, IsSound, IsSoundKept};
 ghost use Rattle.cluster_core.specs.State.{no_supply, shown, supply_of};
 
 use crate::books::Book;
@@ -60,7 +61,7 @@ pub fn resume<S: Store + Drop>(
     match Cluster::mount(alloc, store, ranks, cache as usize, limit) {
         Ok((cluster, opening)) => {
             let mut cluster = cluster;
-            cluster.given.go_on(sessions, nexts);
+            cluster.go_on(sessions, nexts);
             Ok(Book {
                 cluster,
                 history: Vec::new(alloc),
@@ -92,6 +93,19 @@ impl<S: Store + Drop> Book<S> {
             Some(Ino(next)) => next,
             None => Numbers::first_of(rank).0 + PER_RANK,
         }
+    }
+}
+
+impl<S: Store + Drop> Cluster<S> {
+    // Goes on with sessions that were kept, and with numbers that aren't below these.
+    fn go_on(&mut self, sessions: Sessions, nexts: &[u64])
+        requires { (opening : Opening) × (past : List Applied) × IsSound opening past self.old }
+        ensures sessions { self.new.state.sessions ≡ table sessions }
+        ensures numbers { AreRaised nexts.now self.old.state.numbers self.new.state.numbers }
+        ensures same { self.new ≡ record self.old { state = record self.old.state
+            { numbers = self.new.state.numbers; sessions = self.new.state.sessions } } }
+    {
+        self.given.go_on(sessions, nexts);
     }
 }
 
