@@ -1,5 +1,5 @@
 -- From what steps give to the answer of what was asked.
-use Rattle.asking.proofs.Common.{Answer, Answers, Frozen, None, Nothing, Arrive, ArrivesAt, AsksAlone, Bool, BookState, HasCome, HasComeBehind, KeptState, Opening, StandsBehind, Tree, whole_of, Contains, Core, Deferred, Entry, Err, Forwarded, GrantsEach, GrantsThem, Inboxes, IsApplied, IsNewAtMaster, IsDeferred, IsForwarded, IsFrozenAt, IsLeft, IsMaster, IsRepeated, IsSound, IsTakenOut, KeepsButGrants, KeepsUnclean, LacksNumberToServe, Leaf, List, MatchBool, NoInodes, NoMemory, NoneWaits, NotAuthority, Ok, Pin, Question, Rank, Receipt, Refusal, RefusesAsk, RefusesRequest, Request, Result, Roots, Rules, Some, State, Steps, StillWaits, StoreFault, NothingToEvict, TreeMayRefuse, TreeState, Trimmed, UsesStep, WaitsAlone, WhyItWaits, WhyNotGranted, [], ap, arith, false, first_waiting, grant_of, inl, inr, is_directory, is_for, is_pin, left_without, length, list_any, main_leaf, nat_lt, one_authority, refl, set, set-set, Served, ServesTo, shown_tree, subst, sym, told_as, true, waiting_at, with_last, with_waiting, without_request, would_change, ℕ, ◌++◌, ◌∙◌, ◌∷◌, ◌≡◌, ◌≢◌, ◌⊎◌}
+use Rattle.asking.proofs.Common.{Answer, Answers, Frozen, None, Nothing, Arrive, ArrivesAt, AsksAlone, Bool, BookState, HasCome, HasComeBehind, KeptState, Opening, StandsBehind, whole_of, Contains, Core, Deferred, Entry, Err, Forwarded, GrantsEach, GrantsThem, Inboxes, IsApplied, IsNewAtMaster, IsDeferred, IsForwarded, IsFrozenAt, IsLeft, IsMaster, IsRepeated, IsSound, IsTakenOut, KeepsButGrants, KeepsUnclean, LacksNumberToServe, Leaf, List, MatchBool, NoInodes, NoMemory, NoneWaits, NotAuthority, Ok, Pin, Question, Rank, Receipt, Refusal, RefusesAsk, RefusesRequest, Request, Result, Roots, Rules, Some, State, Steps, StillWaits, StoreFault, NothingToEvict, TreeMayRefuse, TreeState, Trimmed, UsesStep, WaitsAlone, WhyItWaits, WhyNotGranted, [], ap, arith, false, first_waiting, grant_of, inl, inr, is_directory, is_for, is_pin, left_without, length, list_any, main_leaf, nat_lt, one_authority, refl, set, set-set, Served, ServesTo, shown_tree, subst, sym, told_as, true, waiting_at, with_last, with_waiting, without_request, would_change, ℕ, ◌++◌, ◌∙◌, ◌∷◌, ◌≡◌, ◌≢◌, ◌⊎◌}
 use Rattle.std.specs.FinMap as map
 use Rattle.std.specs.FinMap.{get-empty}
 use Rattle.std.specs.Prelude.{OnOk}
@@ -84,7 +84,7 @@ module _ (q : Question) (mid : BookState) (sound : IsSound q.opening q.history q
       go false e h = inl (named h.0, ltb-false _ _ e, h.1, h.2)
 
 -- what is asked of a book, behind the entries that are forgotten
-abbrev pub question : Tree → List Entry → KeptState → Rank → Request → Question
+abbrev pub question : Opening → List Entry → KeptState → Rank → Request → Question
 question opening past book rank request = record { core = book.core; history = past ++ book.history; opening = opening; rank = rank; request = request }
 
 pub come_behind : (opening : Opening) (past : List Entry) (old mid : KeptState) (rank : Rank) (request : Request) → StandsBehind opening past old → StandsBehind opening past mid → NoneWaits old.core.state.inboxes → (answer : Answer)

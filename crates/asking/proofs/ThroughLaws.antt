@@ -1,5 +1,5 @@
 -- Exports are ended one after the other, until a request may change what it would.
-use Rattle.asking.proofs.Common.{BookState, Core, Entry, Err, Frozen, IsSoundBook, Leaf, List, NoInodes, NoMemory, None, NoneWaits, NotAuthority, NothingToEvict, Ok, Option, Rank, Receipt, Refusal, Request, Result, Roots, Some, State, StoreFault, Tree, TreeState, Trimmed, WhyItWaits, [], ap, arith, cond, false, inl, inr, length, refl, subst, sym, true, ℕ, ◌++◌, ◌+◌, ◌-◌, ◌<◌, ◌∙◌, ◌∷◌, ◌≡◌, ◌≢◌, ◌≤◌, ◌⊎◌}
+use Rattle.asking.proofs.Common.{BookState, Core, Entry, Err, Frozen, IsSoundBook, Leaf, List, NoInodes, NoMemory, None, NoneWaits, NotAuthority, NothingToEvict, Ok, Opening, Option, Rank, Receipt, Refusal, Request, Result, Roots, Some, State, StoreFault, TreeState, Trimmed, WhyItWaits, [], ap, arith, cond, false, inl, inr, length, refl, subst, sym, true, ℕ, ◌++◌, ◌+◌, ◌-◌, ◌<◌, ◌∙◌, ◌∷◌, ◌≡◌, ◌≢◌, ◌≤◌, ◌⊎◌}
 use Rattle.std.specs.FinMap as map
 use Rattle.std.specs.FinMap.{empty_of_len, get-empty, len-remove}
 use Rattle.std.specs.Prelude.{Bool, is_some}
@@ -296,7 +296,7 @@ pub thread_on : (old mid new : BookState) (request : Request) (result : Result R
     → IsOneThread mid.core.state.tree.limit mid.opening mid.history new.history (request ∷ []) (receipt_in result) → IsOneThread old.core.state.tree.limit old.opening old.history new.history (request ∷ []) (receipt_in result)
 thread_on old mid new request result history opening limit one =
     subst (λ (h : List Entry). IsOneThread old.core.state.tree.limit old.opening h new.history (request ∷ []) (receipt_in result)) history
-    (subst (λ (t : Tree). IsOneThread old.core.state.tree.limit t mid.history new.history (request ∷ []) (receipt_in result)) opening
+    (subst (λ (o : Opening). IsOneThread old.core.state.tree.limit o mid.history new.history (request ∷ []) (receipt_in result)) opening
     (subst (λ (n : ℕ). IsOneThread n mid.opening mid.history new.history (request ∷ []) (receipt_in result)) limit one))
 
 pub order_on : (old mid new : ℕ) (result : Result Receipt Refusal) → mid ≡ old → InOrder mid (receipt_in result) new → InOrder old (receipt_in result) new
