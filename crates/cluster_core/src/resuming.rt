@@ -102,8 +102,10 @@ impl<S: Store + Drop> Cluster<S> {
         requires { (opening : Opening) × (past : List Applied) × IsSound opening past self.old }
         ensures sessions { self.new.state.sessions ≡ table sessions }
         ensures numbers { AreRaised nexts.now self.old.state.numbers self.new.state.numbers }
-        ensures same { self.new ≡ record self.old { state = record self.old.state
-            { numbers = self.new.state.numbers; sessions = self.new.state.sessions } } }
+        ensures same { self.new ≡ record self.old {
+          state = record self.old.state
+              { numbers = self.new.state.numbers; sessions = self.new.state.sessions };
+        } }
     {
         self.given.go_on(sessions, nexts);
     }
