@@ -36,7 +36,8 @@ pub fn forgotten_replies_stay()
 {}
 
 /// The table that begins with no sessions, and takes clients, and behind each of them its replies, is that of what was
-/// stored: what `restore_client` and `restore_reply` leave. A reply is kept there where one was stored.
+/// stored: what `restore_client` and `restore_reply` leave. A reply is kept there where one was stored, and what was
+/// stored is what the stand-in entries keep.
 pub fn restored_sessions_follow()
     ensures start { IsRestored [] no_table }
     ensures client { (stored : List Stored) (old new : Table) (client mark : ℕ) → IsRestored stored old
@@ -46,6 +47,8 @@ pub fn restored_sessions_follow()
         → IsRestored (stored ++ with_reply s tid reply ∷ []) new }
     ensures kept { (stored : List Stored) (table : Table) (client tid : ℕ) → IsRestored stored table
         → is_some (kept_in table client tid) ≡ is_some (reply_stored stored client tid) }
+    ensures stored { (stored : List Stored) (table : Table) → IsRestored stored table
+        → IsStoredOf (stand_ins stored) stored }
 {}
 
 /// Where what was stored is what a history keeps, each request is to the stand-in entries what it is to that history, and
