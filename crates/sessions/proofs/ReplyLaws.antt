@@ -1,8 +1,8 @@
 -- What is kept of a client, and what its history says.
-use Rattle.sessions.proofs.Common.{AllByRecursion, Row, ArePairsOnce, AreRowsOf, AreSetAside, IsStoredOf, Stored, get-empty, mark_in, mark_of, option_map, reply_of, row_or_none, row_stored, Bool, Entry, Equal, Greater, IsAsideFor, IsInReach, IsKeptFor, IsPairAt, IsReplyAt, IsReplyIn, IsTableOf, Less, List, None, Option, Ordering, Reply, Some, T, Table, [], and_parts, ap, ap₂, arith, aside_in, below_all, cond, entries_sorted, eq-eqb, eq_by_cmp, eqb-true, false, false≢true, find, get-entries, get_or_default, is_from, is_lt, is_pair, is_some, is_sorted, kept_in, kept_replies, le_from_is_le, kept_reply, length, list_any, mark, nat_cmp, none-some, ranked, refl, replies_at, reply_in, reply_to, row_in, slice_index_or, stand_in, subst, suc, sym, take, told_reply, true, unsigned_tied, zero, ℕ, ◌&&◌, ◌++◌, ◌-◌, ◌<◌, ◌==◌, ◌||◌, ◌∙◌, ◌∷◌, ◌≡◌, ◌≤◌}
+use Rattle.sessions.proofs.Common.{AllByRecursion, ArePairsOnce, AreSetAside, Bool, Entry, Equal, Greater, IsAsideFor, IsInReach, IsKeptFor, IsPairAt, IsReplyAt, IsReplyIn, IsTableOf, Less, List, None, Option, Ordering, Reply, Some, T, Table, [], and_parts, ap, ap₂, arith, aside_in, below_all, cond, entries_sorted, eq-eqb, eq_by_cmp, eqb-true, false, false≢true, find, get-entries, get_or_default, is_from, is_lt, is_pair, is_some, is_sorted, kept_in, kept_replies, le_from_is_le, kept_reply, length, list_any, mark, nat_cmp, none-some, ranked, refl, replies_at, reply_in, reply_to, row_in, slice_index_or, stand_in, subst, suc, sym, take, told_reply, true, unsigned_tied, zero, ℕ, ◌&&◌, ◌++◌, ◌-◌, ◌<◌, ◌==◌, ◌||◌, ◌∙◌, ◌∷◌, ◌≡◌, ◌≤◌}
 use Rattle.std.specs.FinMap as map
 use Rattle.mds_types.specs.declared.replies.Reply.TheVariants.{Done}
-use Rattle.sessions.proofs.TableLaws.{mark-push, is_from_le, kept_within, told_at}
+use Rattle.sessions.proofs.TableLaws.{is_from_le, kept_within, told_at}
 
 -- ---- the pairs of a map
 

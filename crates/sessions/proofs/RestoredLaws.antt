@@ -1,5 +1,5 @@
 -- Sessions that begin again from what was stored.
-use Rattle.sessions.proofs.Common.{reply_stored, ArePairsOnce, AreSetAside, IsPairAt, Bool, Entry, IsAsideFor, IsKeptFor, IsRestored, IsTableOf, List, None, Option, Reply, Row, Some, Stored, Table, [], ap, ap₂, append-nil, arith, aside_in, cond, eq-eqb, eqb-true, false, false≢true, get-empty, get-insert, get_or-append_seam, is_pair, is_some, kept_in, length, length-append, list_any, list_any-append, mark, mark_in, mark_of, marked_row, max, nat_cmp, nat_cmp_total, nat_eq_equiv, no_row, no_table, none-some, of_mark, refl, reply_in, reply_of, row_in, row_or_none, row_with_told, slice_index_or, stand_in, stored_of, subst, sym, told, told_mark, true, unsigned_tied, with_client, with_reply, with_told, ℕ, ◌&&◌, ◌+◌, ◌++◌, ◌<◌, ◌==◌, ◌||◌, ◌∙◌, ◌∷◌, ◌≡◌, ◌≤◌}
+use Rattle.sessions.proofs.Common.{reply_stored, ArePairsOnce, AreSetAside, IsPairAt, Bool, Entry, IsAsideFor, IsKeptFor, IsRestored, IsTableOf, List, None, Option, Reply, Row, Some, Stored, Table, [], ap, ap₂, append-nil, arith, aside_in, cond, eq-eqb, eqb-true, false, false≢true, get-empty, get-insert, get_or-append_seam, is_pair, is_some, kept_in, length, length-append, list_any, list_any-append, mark, mark_in, mark_or_none, marked_row, max, nat_cmp, nat_cmp_total, nat_eq_equiv, no_row, no_table, none-some, of_mark, refl, reply_in, reply_or_none, row_in, row_or_none, row_with_told, slice_index_or, stand_in, stored_of, subst, sym, stand_ins, mark_stand_in, true, unsigned_tied, with_client, with_reply, with_told, ℕ, ◌&&◌, ◌+◌, ◌++◌, ◌<◌, ◌==◌, ◌||◌, ◌∙◌, ◌∷◌, ◌≡◌, ◌≤◌}
 use Rattle.std.specs.FinMap as map
 use Rattle.mds_types.specs.declared.replies.Reply.TheVariants.{Done}
 use Rattle.sessions.specs.Restored.{IsUnfitFor, IsUnfitReply}
@@ -27,9 +27,9 @@ restored_none = record {
 -- of a pair a reply is kept where one is stored
 pub kept_stored : (stored : List Stored) (table : Table) (client tid : ℕ) → IsRestored stored table → is_some (kept_in table client tid) ≡ is_some (reply_stored stored client tid)
 kept_stored stored table client tid h =
-    go (kept_in table client tid) (aside_in table client tid) (h.tabled.replies client tid) (asides (told stored) table h.tabled h.aside client tid) ∙ ap is_some (h.replies client tid)
+    go (kept_in table client tid) (aside_in table client tid) (h.tabled.replies client tid) (asides (stand_ins stored) table h.tabled h.aside client tid) ∙ ap is_some (h.replies client tid)
   where
-    go : (o : Option ℕ) (a : Option Reply) → IsKeptFor (told stored) client tid o → IsAsideFor (told stored) table.forgotten o a → is_some o ≡ is_some a
+    go : (o : Option ℕ) (a : Option Reply) → IsKeptFor (stand_ins stored) client tid o → IsAsideFor (stand_ins stored) table.forgotten o a → is_some o ≡ is_some a
     go None None k s = refl
     go None (Some reply) k s = absurd s
     go (Some place) None (_, stands) s = absurd (omega (arith, stands.in_range, s, h.aside.before))
@@ -59,32 +59,32 @@ module _ (table : Table) (forgotten client : ℕ) (row : Row) where
         go true one = refl
         go false apart = before q apart
 
-    marks_after : ((q : ℕ) → (q == client) ≡ false → mark_in table q ≡ mark_of (was q)) → row.mark ≡ s.mark → (q : ℕ) → mark_in after q ≡ mark_of (now q)
-    marks_after before same q = ap (λ (r : Row). r.mark) (row_after q) ∙ go (q == client) refl ∙ ap mark_of (sym (is q))
+    marks_after : ((q : ℕ) → (q == client) ≡ false → mark_in table q ≡ mark_or_none (was q)) → row.mark ≡ s.mark → (q : ℕ) → mark_in after q ≡ mark_or_none (now q)
+    marks_after before same q = ap (λ (r : Row). r.mark) (row_after q) ∙ go (q == client) refl ∙ ap mark_or_none (sym (is q))
       where
-        go : (b : Bool) → (q == client) ≡ b → (cond b row (row_in table q)).mark ≡ mark_of (cond b (Some s) (was q))
+        go : (b : Bool) → (q == client) ≡ b → (cond b row (row_in table q)).mark ≡ mark_or_none (cond b (Some s) (was q))
         go true one = same
         go false apart = before q apart
 
-    replies_after : ((q tid : ℕ) → (q == client) ≡ false → aside_in table q tid ≡ reply_of (was q) tid) → ((tid : ℕ) → map.get row.aside tid ≡ reply_in s.replies tid)
-        → (q tid : ℕ) → aside_in after q tid ≡ reply_of (now q) tid
-    replies_after before same q tid = ap (λ (r : Row). map.get r.aside tid) (row_after q) ∙ go (q == client) refl ∙ ap (λ o. reply_of o tid) (sym (is q))
+    replies_after : ((q tid : ℕ) → (q == client) ≡ false → aside_in table q tid ≡ reply_or_none (was q) tid) → ((tid : ℕ) → map.get row.aside tid ≡ reply_in s.replies tid)
+        → (q tid : ℕ) → aside_in after q tid ≡ reply_or_none (now q) tid
+    replies_after before same q tid = ap (λ (r : Row). map.get r.aside tid) (row_after q) ∙ go (q == client) refl ∙ ap (λ o. reply_or_none o tid) (sym (is q))
       where
-        go : (b : Bool) → (q == client) ≡ b → map.get (cond b row (row_in table q)).aside tid ≡ reply_of (cond b (Some s) (was q)) tid
+        go : (b : Bool) → (q == client) ≡ b → map.get (cond b row (row_in table q)).aside tid ≡ reply_or_none (cond b (Some s) (was q)) tid
         go true one = same tid
         go false apart = before q tid apart
 
 -- ---- a client was taken
 
 -- how many entries tell a mark
-pub tells_one : (client m : ℕ) → 0 < m → length (told_mark client m) ≡ 1
+pub tells_one : (client m : ℕ) → 0 < m → length (mark_stand_in client m) ≡ 1
 tells_one client m low = go (m == 0) refl
   where
     go : (b : Bool) → (m == 0) ≡ b → length (cond b [] (stand_in client m 0 Done ∷ [])) ≡ 1
     go true is = absurd (omega (arith, low, eqb-true m 0 is))
     go false is = refl
 
-pub tells_none : (client m : ℕ) → m ≤ 0 → length (told_mark client m) ≡ 0
+pub tells_none : (client m : ℕ) → m ≤ 0 → length (mark_stand_in client m) ≡ 0
 tells_none client m high = go (m == 0) refl
   where
     go : (b : Bool) → (m == 0) ≡ b → length (cond b [] (stand_in client m 0 Done ∷ [])) ≡ 0
@@ -139,17 +139,17 @@ module _ (stored : List Stored) (table : Table) (client m : ℕ) (h : IsRestored
   unkept : (tid : ℕ) → kept_in table client tid ≡ None
   unkept tid = ap (λ (r : Row). map.get r.kept tid) (row_none table client none) ∙ get-empty nat_cmp tid
 
-  unheard : (tid : ℕ) → list_any (is_pair client tid) (told stored) ≡ false
-  unheard tid = new_pair (told stored) table h.tabled h.aside client tid (omega (arith, unmarked)) (unkept tid)
+  unheard : (tid : ℕ) → list_any (is_pair client tid) (stand_ins stored) ≡ false
+  unheard tid = new_pair (stand_ins stored) table h.tabled h.aside client tid (omega (arith, unmarked)) (unkept tid)
 
   unaside : (tid : ℕ) → aside_in table client tid ≡ None
-  unaside tid = none_aside (told stored) table h.tabled h.aside client tid (unkept tid)
+  unaside tid = none_aside (stand_ins stored) table h.tabled h.aside client tid (unkept tid)
 
   -- the history and the table with these entries
   record IsTold (es : List Entry) : Type 0 where
-    tabled : IsTableOf (told stored ++ es) (after table (table.forgotten + length es) client (marked_row m))
-    aside : AreSetAside (told stored ++ es) [] (after table (table.forgotten + length es) client (marked_row m))
-    once : ArePairsOnce (told stored ++ es)
+    tabled : IsTableOf (stand_ins stored ++ es) (after table (table.forgotten + length es) client (marked_row m))
+    aside : AreSetAside (stand_ins stored ++ es) [] (after table (table.forgotten + length es) client (marked_row m))
+    once : ArePairsOnce (stand_ins stored ++ es)
 
   -- a mark of 0 tells nothing
   told_nothing : m ≡ 0 → IsTold []
@@ -159,32 +159,32 @@ module _ (stored : List Stored) (table : Table) (client m : ℕ) (h : IsRestored
       let same_mark : row.mark ≡ mark_in table client = zero ∙ sym unmarked in
       let same_kept : (t : ℕ) → map.get row.kept t ≡ kept_in table client t = λ t. get-empty nat_cmp t ∙ sym (unkept t) in
       let same_aside : (t : ℕ) → map.get row.aside t ≡ aside_in table client t = λ t. get-empty nat_cmp t ∙ sym (unaside t) in
-      let nil = sym (append-nil (told stored)) in
+      let nil = sym (append-nil (stand_ins stored)) in
       record {
-        tabled = subst (λ l. IsTableOf l (after table (table.forgotten + 0) client row)) nil (table_same (told stored) table h.tabled h.aside (table.forgotten + 0) f client row same_mark same_kept same_aside);
-        aside = subst (λ l. AreSetAside l [] (after table (table.forgotten + 0) client row)) nil (aside_still (told stored) table h.tabled h.aside (table.forgotten + 0) f client row same_mark same_kept same_aside);
+        tabled = subst (λ l. IsTableOf l (after table (table.forgotten + 0) client row)) nil (table_same (stand_ins stored) table h.tabled h.aside (table.forgotten + 0) f client row same_mark same_kept same_aside);
+        aside = subst (λ l. AreSetAside l [] (after table (table.forgotten + 0) client row)) nil (aside_still (stand_ins stored) table h.tabled h.aside (table.forgotten + 0) f client row same_mark same_kept same_aside);
         once = subst ArePairsOnce nil h.once;
       }
 
   -- another tells itself
   told_itself : (m == 0) ≡ false → IsTold (stand_in client m 0 Done ∷ [])
   told_itself some = record {
-    tabled = table_next (told stored) table h.tabled h.aside e (marked_row m) marked kept set_aside;
-    aside = aside_next (told stored) table h.tabled h.aside e (marked_row m) marked kept set_aside;
-    once = pairs_more (told stored) e h.once (unheard 0);
+    tabled = table_next (stand_ins stored) table h.tabled h.aside e (marked_row m) marked kept set_aside;
+    aside = aside_next (stand_ins stored) table h.tabled h.aside e (marked_row m) marked kept set_aside;
+    once = pairs_more (stand_ins stored) e h.once (unheard 0);
   }
     where
       e : Entry
       e = stand_in client m 0 Done
 
-      before : mark (told stored) client ≡ 0
+      before : mark (stand_ins stored) client ≡ 0
       before = sym (h.tabled.marks client) ∙ unmarked
 
-      marked : m ≡ max (mark (told stored) client) m
+      marked : m ≡ max (mark (stand_ins stored) client) m
       marked = omega (arith, before)
 
-      risen : mark (told stored ++ e ∷ []) client ≡ m
-      risen = mark-push (told stored) e client ∙ ap (λ b. cond b (max (mark (told stored) client) m) (mark (told stored) client)) (eq-eqb client client refl) ∙ sym marked
+      risen : mark (stand_ins stored ++ e ∷ []) client ≡ m
+      risen = mark-push (stand_ins stored) e client ∙ ap (λ b. cond b (max (mark (stand_ins stored) client) m) (mark (stand_ins stored) client)) (eq-eqb client client refl) ∙ sym marked
 
       above : (t : ℕ) → m ≤ t → (0 == t) ≡ false
       above t low = go (0 == t) refl
@@ -193,27 +193,27 @@ module _ (stored : List Stored) (table : Table) (client m : ℕ) (h : IsRestored
           go false is = refl
           go true is = let at : 0 ≡ t = eqb-true 0 t is in absurd (false≢true (sym some ∙ eq-eqb m 0 (omega (arith, low, at))))
 
-      absent : (t : ℕ) → IsKeptFor (told stored ++ e ∷ []) client t None
+      absent : (t : ℕ) → IsKeptFor (stand_ins stored ++ e ∷ []) client t None
       absent t low =
-          list_any-append (is_pair client t) (told stored) (e ∷ [])
+          list_any-append (is_pair client t) (stand_ins stored) (e ∷ [])
           ∙ ap₂ (λ a b. a || (b || false)) (unheard t) (ap (λ b. (client == client) && b) (above t (subst (λ n. n ≤ t) risen low)) ∙ never (client == client))
         where
           never : (b : Bool) → (b && false) ≡ false
           never true = refl
           never false = refl
 
-      kept : (t : ℕ) → IsKeptFor (told stored ++ e ∷ []) client t (map.get (marked_row m).kept t)
-      kept t = subst (IsKeptFor (told stored ++ e ∷ []) client t) (sym (get-empty nat_cmp t)) (absent t)
+      kept : (t : ℕ) → IsKeptFor (stand_ins stored ++ e ∷ []) client t (map.get (marked_row m).kept t)
+      kept t = subst (IsKeptFor (stand_ins stored ++ e ∷ []) client t) (sym (get-empty nat_cmp t)) (absent t)
 
-      set_aside : (t : ℕ) → IsAsideFor (told stored ++ e ∷ []) (table.forgotten + 1) (map.get (marked_row m).kept t) (map.get (marked_row m).aside t)
+      set_aside : (t : ℕ) → IsAsideFor (stand_ins stored ++ e ∷ []) (table.forgotten + 1) (map.get (marked_row m).kept t) (map.get (marked_row m).aside t)
       set_aside t = nothing (map.get (marked_row m).kept t) (map.get (marked_row m).aside t) (get-empty nat_cmp t) (get-empty nat_cmp t)
         where
-          nothing : (o : Option ℕ) (a : Option Reply) → o ≡ None → a ≡ None → IsAsideFor (told stored ++ e ∷ []) (table.forgotten + 1) o a
+          nothing : (o : Option ℕ) (a : Option Reply) → o ≡ None → a ≡ None → IsAsideFor (stand_ins stored ++ e ∷ []) (table.forgotten + 1) o a
           nothing None None is also = tt
           nothing None (Some reply) is also = absurd (none-some reply (sym also))
           nothing (Some place) a is also = absurd (none-some place (sym is))
 
-  told_after : IsTold (told_mark client m)
+  told_after : IsTold (mark_stand_in client m)
   told_after = go (m == 0) refl
     where
       go : (b : Bool) → (m == 0) ≡ b → IsTold (cond b [] (stand_in client m 0 Done ∷ []))
@@ -224,7 +224,7 @@ module _ (stored : List Stored) (table : Table) (client m : ℕ) (h : IsRestored
   restored_client =
       let s = of_mark client m in
       let is = stored_with stored s unknown in
-      let f = table.forgotten + length (told_mark client m) in
+      let f = table.forgotten + length (mark_stand_in client m) in
       record {
         clients = once_more stored s h.clients unknown;
         known = known_after table f client (marked_row m) (stored_of stored) (stored_of (stored ++ s ∷ [])) s is (λ q _. h.known q);
@@ -248,7 +248,7 @@ unfit_reply table client tid row is NoMemory why = tt
 module _ (stored : List Stored) (s : Stored) (table : Table) (tid : ℕ) (reply : Reply) (h : IsRestored (stored ++ s ∷ []) table)
     (low : mark_in table s.client ≤ tid) (none : kept_in table s.client tid ≡ None) where
   whole : List Entry
-  whole = told (stored ++ s ∷ [])
+  whole = stand_ins (stored ++ s ∷ [])
 
   abbrev e : Entry
   e = stand_in s.client s.mark tid reply
@@ -266,18 +266,18 @@ module _ (stored : List Stored) (s : Stored) (table : Table) (tid : ℕ) (reply 
   others q apart = was q ∙ ap (λ b. cond b (Some s) (stored_of stored q)) apart
 
   marked : mark_in table s.client ≡ s.mark
-  marked = h.marks s.client ∙ ap mark_of its
+  marked = h.marks s.client ∙ ap mark_or_none its
 
-  end : length (told (stored ++ s ∷ [])) ≡ table.forgotten
+  end : length (stand_ins (stored ++ s ∷ [])) ≡ table.forgotten
   end = h.aside.before
 
-  risen : (row_in table s.client).mark ≡ max (mark (told (stored ++ s ∷ [])) s.client) s.mark
+  risen : (row_in table s.client).mark ≡ max (mark (stand_ins (stored ++ s ∷ [])) s.client) s.mark
   risen = omega (arith, marked, h.tabled.marks s.client)
 
-  mark_now : mark (told (stored ++ s ∷ []) ++ e ∷ []) s.client ≡ mark_in table s.client
+  mark_now : mark (stand_ins (stored ++ s ∷ []) ++ e ∷ []) s.client ≡ mark_in table s.client
   mark_now =
-      mark-push (told (stored ++ s ∷ [])) e s.client
-      ∙ ap (λ b. cond b (max (mark (told (stored ++ s ∷ [])) s.client) s.mark) (mark (told (stored ++ s ∷ [])) s.client)) (eq-eqb s.client s.client refl) ∙ sym risen
+      mark-push (stand_ins (stored ++ s ∷ [])) e s.client
+      ∙ ap (λ b. cond b (max (mark (stand_ins (stored ++ s ∷ [])) s.client) s.mark) (mark (stand_ins (stored ++ s ∷ [])) s.client)) (eq-eqb s.client s.client refl) ∙ sym risen
 
   kept_row : (t : ℕ) → map.get row.kept t ≡ cond (t == tid) (Some table.forgotten) (kept_in table s.client t)
   kept_row t = get-insert nat_cmp_total (row_in table s.client).kept tid table.forgotten t ∙ ap (λ b. cond b (Some table.forgotten) (kept_in table s.client t)) (unsigned_tied t tid)
@@ -285,32 +285,32 @@ module _ (stored : List Stored) (s : Stored) (table : Table) (tid : ℕ) (reply 
   aside_row : (t : ℕ) → map.get row.aside t ≡ cond (t == tid) (Some reply) (aside_in table s.client t)
   aside_row t = get-insert nat_cmp_total (row_in table s.client).aside tid reply t ∙ ap (λ b. cond b (Some reply) (aside_in table s.client t)) (unsigned_tied t tid)
 
-  at_end : (t : ℕ) → t ≡ tid → IsPairAt (told (stored ++ s ∷ []) ++ e ∷ []) s.client t table.forgotten
-  at_end t same = subst (IsPairAt (told (stored ++ s ∷ []) ++ e ∷ []) s.client t) end (record {
-    in_range = omega (arith, length-append (told (stored ++ s ∷ [])) (e ∷ []));
-    pair = λ d. rw (get_or-append_seam (told (stored ++ s ∷ [])) e [] d, eq-eqb s.client s.client refl) (eq-eqb tid t (sym same));
+  at_end : (t : ℕ) → t ≡ tid → IsPairAt (stand_ins (stored ++ s ∷ []) ++ e ∷ []) s.client t table.forgotten
+  at_end t same = subst (IsPairAt (stand_ins (stored ++ s ∷ []) ++ e ∷ []) s.client t) end (record {
+    in_range = omega (arith, length-append (stand_ins (stored ++ s ∷ [])) (e ∷ []));
+    pair = λ d. rw (get_or-append_seam (stand_ins (stored ++ s ∷ [])) e [] d, eq-eqb s.client s.client refl) (eq-eqb tid t (sym same));
   })
 
-  kept_now : (t : ℕ) → IsKeptFor (told (stored ++ s ∷ []) ++ e ∷ []) s.client t (map.get row.kept t)
-  kept_now t = subst (IsKeptFor (told (stored ++ s ∷ []) ++ e ∷ []) s.client t) (sym (kept_row t)) (go (t == tid) refl)
+  kept_now : (t : ℕ) → IsKeptFor (stand_ins (stored ++ s ∷ []) ++ e ∷ []) s.client t (map.get row.kept t)
+  kept_now t = subst (IsKeptFor (stand_ins (stored ++ s ∷ []) ++ e ∷ []) s.client t) (sym (kept_row t)) (go (t == tid) refl)
     where
-      go : (b : Bool) → (t == tid) ≡ b → IsKeptFor (told (stored ++ s ∷ []) ++ e ∷ []) s.client t (cond b (Some table.forgotten) (kept_in table s.client t))
+      go : (b : Bool) → (t == tid) ≡ b → IsKeptFor (stand_ins (stored ++ s ∷ []) ++ e ∷ []) s.client t (cond b (Some table.forgotten) (kept_in table s.client t))
       go true one = let at = eqb-true t tid one in (omega (arith, mark_now, low, at), at_end t at)
       go false apart =
           let before = h.tabled.marks s.client in
-          others_kept (told (stored ++ s ∷ [])) e s.client t (ap₂ (λ a b. a && b) (eq-eqb s.client s.client refl) (nat_eq_equiv.symm tid t ∙ apart)) (omega (arith, before, mark_now)) (λ under. omega (arith, under, before, mark_now))
+          others_kept (stand_ins (stored ++ s ∷ [])) e s.client t (ap₂ (λ a b. a && b) (eq-eqb s.client s.client refl) (nat_eq_equiv.symm tid t ∙ apart)) (omega (arith, before, mark_now)) (λ under. omega (arith, under, before, mark_now))
           (kept_in table s.client t) (h.tabled.replies s.client t)
 
-  aside_now : (t : ℕ) → IsAsideFor (told (stored ++ s ∷ []) ++ e ∷ []) (table.forgotten + 1) (map.get row.kept t) (map.get row.aside t)
+  aside_now : (t : ℕ) → IsAsideFor (stand_ins (stored ++ s ∷ []) ++ e ∷ []) (table.forgotten + 1) (map.get row.kept t) (map.get row.aside t)
   aside_now t = rw (kept_row t, aside_row t) (go (t == tid))
     where
-      go : (b : Bool) → IsAsideFor (told (stored ++ s ∷ []) ++ e ∷ []) (table.forgotten + 1) (cond b (Some table.forgotten) (kept_in table s.client t)) (cond b (Some reply) (aside_in table s.client t))
-      go true = (omega arith, λ d. ap (λ (x : Entry). x.reply) (sym (ap (λ n. slice_index_or (told (stored ++ s ∷ []) ++ e ∷ []) n d) (sym end) ∙ get_or-append_seam (told (stored ++ s ∷ [])) e [] d)))
-      go false = aside_up (told (stored ++ s ∷ [])) table h.tabled h.aside e s.client t (kept_in table s.client t) (aside_in table s.client t) (h.tabled.replies s.client t)
-          (asides (told (stored ++ s ∷ [])) table h.tabled h.aside s.client t)
+      go : (b : Bool) → IsAsideFor (stand_ins (stored ++ s ∷ []) ++ e ∷ []) (table.forgotten + 1) (cond b (Some table.forgotten) (kept_in table s.client t)) (cond b (Some reply) (aside_in table s.client t))
+      go true = (omega arith, λ d. ap (λ (x : Entry). x.reply) (sym (ap (λ n. slice_index_or (stand_ins (stored ++ s ∷ []) ++ e ∷ []) n d) (sym end) ∙ get_or-append_seam (stand_ins (stored ++ s ∷ [])) e [] d)))
+      go false = aside_up (stand_ins (stored ++ s ∷ [])) table h.tabled h.aside e s.client t (kept_in table s.client t) (aside_in table s.client t) (h.tabled.replies s.client t)
+          (asides (stand_ins (stored ++ s ∷ [])) table h.tabled h.aside s.client t)
 
   none_stored : reply_in s.replies tid ≡ None
-  none_stored = sym (h.replies s.client tid ∙ ap (λ o. reply_of o tid) its) ∙ none_aside (told (stored ++ s ∷ [])) table h.tabled h.aside s.client tid none
+  none_stored = sym (h.replies s.client tid ∙ ap (λ o. reply_or_none o tid) its) ∙ none_aside (stand_ins (stored ++ s ∷ [])) table h.tabled h.aside s.client tid none
 
   pub restored_reply : IsRestored (stored ++ with_reply s tid reply ∷ []) (with_told table s.client tid reply)
   restored_reply =
@@ -322,10 +322,10 @@ module _ (stored : List Stored) (s : Stored) (table : Table) (tid : ℕ) (reply 
       record {
         clients = once_more stored n before.1 before.0;
         known = known_after table f s.client row (stored_of stored) (stored_of (stored ++ n ∷ [])) n is (λ q apart. h.known q ∙ ap is_some (others q apart));
-        marks = marks_after table f s.client row (stored_of stored) (stored_of (stored ++ n ∷ [])) n is (λ q apart. h.marks q ∙ ap mark_of (others q apart)) marked;
-        replies = replies_after table f s.client row (stored_of stored) (stored_of (stored ++ n ∷ [])) n is (λ q t apart. h.replies q t ∙ ap (λ o. reply_of o t) (others q apart))
-            (λ t. aside_row t ∙ ap (cond (t == tid) (Some reply)) (h.replies s.client t ∙ ap (λ o. reply_of o t) its) ∙ sym (reply_more s.replies tid reply t none_stored));
-        tabled = subst (λ l. IsTableOf l (with_told table s.client tid reply)) more (table_next (told (stored ++ s ∷ [])) table h.tabled h.aside e row risen kept_now aside_now);
-        aside = subst (λ l. AreSetAside l [] (with_told table s.client tid reply)) more (aside_next (told (stored ++ s ∷ [])) table h.tabled h.aside e row risen kept_now aside_now);
-        once = subst ArePairsOnce more (pairs_more (told (stored ++ s ∷ [])) e h.once (new_pair (told (stored ++ s ∷ [])) table h.tabled h.aside s.client tid low none));
+        marks = marks_after table f s.client row (stored_of stored) (stored_of (stored ++ n ∷ [])) n is (λ q apart. h.marks q ∙ ap mark_or_none (others q apart)) marked;
+        replies = replies_after table f s.client row (stored_of stored) (stored_of (stored ++ n ∷ [])) n is (λ q t apart. h.replies q t ∙ ap (λ o. reply_or_none o t) (others q apart))
+            (λ t. aside_row t ∙ ap (cond (t == tid) (Some reply)) (h.replies s.client t ∙ ap (λ o. reply_or_none o t) its) ∙ sym (reply_more s.replies tid reply t none_stored));
+        tabled = subst (λ l. IsTableOf l (with_told table s.client tid reply)) more (table_next (stand_ins (stored ++ s ∷ [])) table h.tabled h.aside e row risen kept_now aside_now);
+        aside = subst (λ l. AreSetAside l [] (with_told table s.client tid reply)) more (aside_next (stand_ins (stored ++ s ∷ [])) table h.tabled h.aside e row risen kept_now aside_now);
+        once = subst ArePairsOnce more (pairs_more (stand_ins (stored ++ s ∷ [])) e h.once (new_pair (stand_ins (stored ++ s ∷ [])) table h.tabled h.aside s.client tid low none));
       }

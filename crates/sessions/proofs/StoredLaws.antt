@@ -1,5 +1,5 @@
 -- What is stored, the history that the clients were told, and the table of it with one entry more.
-use Rattle.sessions.proofs.Common.{AreClientsOnce, ArePairsOnce, AreSetAside, Bool, Entry, IsAsideFor, IsKeptFor, IsTableOf, List, None, Option, Reply, Row, Some, Stored, Table, [], ap, ap₂, append-nil, append_assoc, arith, aside_in, cond, eq-eqb, eqb-true, false, false≢true, get-insert, get_or-append_seam, get_or_append_left, is_pair, is_some, kept_in, length, length-append, list_any, map-append, mark, mark_in, max, nat_cmp_total, nat_eq_equiv, none-some, of_mark, refl, reply_in, row_in, row_or_none, slice_index_or, stand_in, stored_of, subst, sym, take, take-append-le, take-append_seam, told, told_mark, told_of, true, unsigned_tied, with_reply, ℕ, ◌&&◌, ◌+◌, ◌++◌, ◌<◌, ◌==◌, ◌∙◌, ◌∷◌, ◌≡◌, ◌≤◌}
+use Rattle.sessions.proofs.Common.{AreClientsOnce, ArePairsOnce, AreSetAside, Bool, Entry, IsAsideFor, IsKeptFor, IsTableOf, List, None, Option, Reply, Row, Some, Stored, Table, [], ap, ap₂, append-nil, append_assoc, arith, aside_in, cond, eq-eqb, eqb-true, false, false≢true, get-insert, get_or-append_seam, get_or_append_left, is_pair, is_some, kept_in, length, length-append, list_any, map-append, mark, mark_in, max, nat_cmp_total, nat_eq_equiv, none-some, of_mark, refl, reply_in, row_in, row_or_none, slice_index_or, stand_in, stored_of, subst, sym, take, take-append-le, take-append_seam, stand_ins, mark_stand_in, stand_ins_of, true, unsigned_tied, with_reply, ℕ, ◌&&◌, ◌+◌, ◌++◌, ◌<◌, ◌==◌, ◌∙◌, ◌∷◌, ◌≡◌, ◌≤◌}
 use Rattle.std.proofs.Common.{map as list_map}
 use Rattle.std.specs.FinMap as map
 use Rattle.sessions.proofs.AsideLaws.{still_aside}
@@ -77,21 +77,21 @@ reply_more (r ∷ rs) tid reply t none = go (r.0 == t) refl (t == tid) refl (r.0
 
 -- ---- the history that was told
 
-told_more : (stored : List Stored) (s : Stored) → told (stored ++ s ∷ []) ≡ told stored ++ told_of s
-told_more [] s = append-nil (told_of s)
-told_more (x ∷ xs) s = ap (λ l. told_of x ++ l) (told_more xs s) ∙ sym (append_assoc (told_of x) (told xs) (told_of s))
+told_more : (stored : List Stored) (s : Stored) → stand_ins (stored ++ s ∷ []) ≡ stand_ins stored ++ stand_ins_of s
+told_more [] s = append-nil (stand_ins_of s)
+told_more (x ∷ xs) s = ap (λ l. stand_ins_of x ++ l) (told_more xs s) ∙ sym (append_assoc (stand_ins_of x) (stand_ins xs) (stand_ins_of s))
 
-pub told_marked : (stored : List Stored) (client mark : ℕ) → told (stored ++ of_mark client mark ∷ []) ≡ told stored ++ told_mark client mark
-told_marked stored client mark = told_more stored (of_mark client mark) ∙ ap (λ l. told stored ++ l) (append-nil (told_mark client mark))
+pub told_marked : (stored : List Stored) (client mark : ℕ) → stand_ins (stored ++ of_mark client mark ∷ []) ≡ stand_ins stored ++ mark_stand_in client mark
+told_marked stored client mark = told_more stored (of_mark client mark) ∙ ap (λ l. stand_ins stored ++ l) (append-nil (mark_stand_in client mark))
 
 pub told_replied : (stored : List Stored) (s : Stored) (tid : ℕ) (reply : Reply)
-    → told (stored ++ with_reply s tid reply ∷ []) ≡ told (stored ++ s ∷ []) ++ stand_in s.client s.mark tid reply ∷ []
+    → stand_ins (stored ++ with_reply s tid reply ∷ []) ≡ stand_ins (stored ++ s ∷ []) ++ stand_in s.client s.mark tid reply ∷ []
 told_replied stored s tid reply =
     let f : ℕ × Reply → Entry = λ r. stand_in s.client s.mark r.0 r.1 in
     told_more stored (with_reply s tid reply)
-    ∙ ap (λ l. told stored ++ (told_mark s.client s.mark ++ l)) (map-append f s.replies ((tid, reply) ∷ []))
-    ∙ ap (λ l. told stored ++ l) (sym (append_assoc (told_mark s.client s.mark) (list_map f s.replies) (f (tid, reply) ∷ [])))
-    ∙ sym (append_assoc (told stored) (told_of s) (f (tid, reply) ∷ []))
+    ∙ ap (λ l. stand_ins stored ++ (mark_stand_in s.client s.mark ++ l)) (map-append f s.replies ((tid, reply) ∷ []))
+    ∙ ap (λ l. stand_ins stored ++ l) (sym (append_assoc (mark_stand_in s.client s.mark) (list_map f s.replies) (f (tid, reply) ∷ [])))
+    ∙ sym (append_assoc (stand_ins stored) (stand_ins_of s) (f (tid, reply) ∷ []))
     ∙ ap (λ l. l ++ f (tid, reply) ∷ []) (sym (told_more stored s))
 
 -- a pair that is new stands once

@@ -7,7 +7,7 @@ use Rattle.mds_types.specs.History.{mark}
 use Rattle.sessions.specs.Aside.{AreSetAside}
 use Rattle.sessions.specs.Replies.{ArePairsOnce, kept_replies, kept_reply}
 use Rattle.sessions.specs.Rooms.{is_among}
-use Rattle.sessions.specs.Stored.{AreClientsOnce, Stored, mark_stored, reply_stored, stored_of, told, told_mark}
+use Rattle.sessions.specs.Stored.{AreClientsOnce, Stored, mark_stored, reply_stored, stored_of, stand_ins, mark_stand_in}
 use Rattle.sessions.specs.Table.{IsTableOf, Row, Table, aside_in, kept_in, mark_in, row_in}
 use Rattle.sessions.specs.declared.restoring.Unfit.{Unfit}
 use Rattle.sessions.specs.declared.restoring.Unfit.TheVariants.{BelowMark, ClientTwice, NoClient, NoMemory, ReplyTwice}
@@ -19,7 +19,7 @@ marked_row mark = record { mark = mark; kept = map.empty; aside = map.empty }
 -- the table with one more client
 abbrev pub with_client : Table → (client mark : ℕ) → Table
 with_client table client mark = record {
-  forgotten = table.forgotten + length (told_mark client mark);
+  forgotten = table.forgotten + length (mark_stand_in client mark);
   rows = map.insert table.rows client (marked_row mark);
 }
 
@@ -102,18 +102,18 @@ pub record IsStoredBut (history : List Entry) (changed : List ℕ) (stored : Lis
       → reply_stored stored client tid ≡ kept_reply history client tid
 
 -- what is kept of the changed clients was stored, and what was stored of the others stays
-abbrev pub IsWritten : List Entry → Table → (changed : List ℕ) → (stored new : List Stored) → Type 0
-IsWritten history table changed stored new = (client : ℕ) → stored_of new client
+abbrev pub IsStoredAnew : List Entry → Table → (changed : List ℕ) → (stored new : List Stored) → Type 0
+IsStoredAnew history table changed stored new = (client : ℕ) → stored_of new client
     ≡ cond (is_among changed client) (option_map (λ _. row_stored history table client) (map.get table.rows client))
     (stored_of stored client)
 
--- the table is that of what was stored: each client with its mark and its replies, and the table of the history that
--- they were told, all of which is forgotten
+-- the table is that of what was stored: it has each client with its mark and its replies, and is the table of the
+-- stand-in entries, all of which are forgotten
 pub record IsRestored (stored : List Stored) (table : Table) : Type 0 where
   pub clients : AreClientsOnce stored
   pub known : (client : ℕ) → is_some (map.get table.rows client) ≡ is_some (stored_of stored client)
   pub marks : (client : ℕ) → mark_in table client ≡ mark_stored stored client
   pub replies : (client tid : ℕ) → aside_in table client tid ≡ reply_stored stored client tid
-  pub tabled : IsTableOf (told stored) table
-  pub aside : AreSetAside (told stored) [] table
-  pub once : ArePairsOnce (told stored)
+  pub tabled : IsTableOf (stand_ins stored) table
+  pub aside : AreSetAside (stand_ins stored) [] table
+  pub once : ArePairsOnce (stand_ins stored)

@@ -37,7 +37,7 @@ pub(crate) struct Client {
     mark: u64,
     kept: SortedMap<u64, usize>,
     aside: SortedMap<u64, Reply>,
-    /// Whether its mark or its replies are others than when the changed clients were last cleared.
+    /// Whether a reply was kept since the changed clients were last cleared.
     changed: bool,
 }
 

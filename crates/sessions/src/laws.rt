@@ -8,9 +8,9 @@ ghost use Rattle.mds_types.specs.declared.entries.Entry.{Entry as Applied};
 ghost use Rattle.mds_types.specs.declared.replies.Reply.{Reply};
 ghost use Rattle.sessions.specs.Aside.{AreSetAside, forget_all};
 ghost use Rattle.sessions.specs.Replies.{AnswerAlike, ArePairsOnce, kept_replies, kept_reply};
-ghost use Rattle.sessions.specs.Restored.{AreRowsOf, IsRestored, IsStoredBut, IsStoredOf, IsWritten, TakesClient, TakesReply};
+ghost use Rattle.sessions.specs.Restored.{AreRowsOf, IsRestored, IsStoredBut, IsStoredOf, IsStoredAnew, TakesClient, TakesReply};
 ghost use Rattle.sessions.specs.Rooms.{with_changed};
-ghost use Rattle.sessions.specs.Stored.{Stored, of_mark, reply_in, reply_stored, told, with_reply};
+ghost use Rattle.sessions.specs.Stored.{Stored, of_mark, reply_in, reply_stored, stand_ins, with_reply};
 ghost use Rattle.sessions.specs.Table.{IsTableOf, Table, kept_in, no_table, noted, trimmed};
 
 /// The table of a history, in which the reply of one more entry was kept and that entry's client trimmed, is the table
@@ -36,7 +36,8 @@ pub fn forgotten_replies_stay()
 {}
 
 /// The table that begins with no sessions, and takes clients, and behind each of them its replies, is that of what was
-/// stored: what `restore_client` and `restore_reply` leave.
+/// stored: what `restore_client` and `restore_reply` leave. A reply is kept there where one was stored, and what was
+/// stored is what the stand-in entries keep.
 pub fn restored_sessions_follow()
     ensures start { IsRestored [] no_table }
     ensures client { (stored : List Stored) (old new : Table) (client mark : ℕ) → IsRestored stored old
@@ -46,13 +47,15 @@ pub fn restored_sessions_follow()
         → IsRestored (stored ++ with_reply s tid reply ∷ []) new }
     ensures kept { (stored : List Stored) (table : Table) (client tid : ℕ) → IsRestored stored table
         → is_some (kept_in table client tid) ≡ is_some (reply_stored stored client tid) }
+    ensures stored { (stored : List Stored) (table : Table) → IsRestored stored table
+        → IsStoredOf (stand_ins stored) stored }
 {}
 
-/// Where what was stored is what a history keeps, each request is to what its clients were told what it is to the
-/// history, and one that is kept has the same reply.
+/// Where what was stored is what a history keeps, each request is to the stand-in entries what it is to that history, and
+/// one that is kept has the same reply.
 pub fn restored_sessions_answer_alike()
     ensures { (history : List Applied) (stored : List Stored) (table : Table) → IsStoredOf history stored
-        → ArePairsOnce history → IsRestored stored table → AnswerAlike history (told stored) }
+        → ArePairsOnce history → IsRestored stored table → AnswerAlike history (stand_ins stored) }
 {}
 
 /// What is kept of a client are the replies that the history keeps, in the order of their transaction numbers: that of
@@ -69,8 +72,8 @@ pub fn kept_replies_are_the_histories()
         → AreRowsOf history table stored → IsStoredOf (past ++ history) stored }
 {}
 
-/// What is stored of a client that isn't changed is what the history keeps of it, whatever request is applied; and so of
-/// each client, once what is kept of the changed ones is stored.
+/// What is stored of a client that isn't changed is what the history keeps of it, whichever request is applied. Once what
+/// is kept of the changed clients is stored, this holds of each client.
 pub fn unchanged_clients_stay_stored()
     ensures none { (history : List Applied) (stored : List Stored) → IsStoredOf history stored
         → IsStoredBut history [] stored }
@@ -79,6 +82,6 @@ pub fn unchanged_clients_stay_stored()
         → IsStoredBut (history ++ entry ∷ []) (with_changed changed entry.client) stored }
     ensures written { (past history : List Applied) (table : Table) (changed : List ℕ) (stored new : List Stored)
         → IsTableOf (past ++ history) table → AreSetAside past history table → ArePairsOnce (past ++ history)
-        → IsStoredBut (past ++ history) changed stored → IsWritten history table changed stored new
+        → IsStoredBut (past ++ history) changed stored → IsStoredAnew history table changed stored new
         → IsStoredOf (past ++ history) new }
 {}

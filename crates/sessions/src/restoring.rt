@@ -36,7 +36,7 @@ impl From<AllocError> for Unfit {
 }
 
 impl Sessions {
-    /// Takes a client as it was stored: its mark. It may not be there yet. The client isn't changed by this.
+    /// Adds a client with the mark that was stored. It may not be there yet. It doesn't count as changed.
     pub fn restore_client(&mut self, alloc: Global, client: u64, mark: u64) -> Result<(), Unfit>
         ensures taken { OnOk result (TakesClient (table self.old) (table self.new) client mark) }
         ensures same { OnErr result (table self.new ≡ table self.old) }
@@ -61,8 +61,8 @@ impl Sessions {
         Ok(())
     }
 
-    /// Takes a reply as it was stored, of a client that is there: one at or above its mark, to a transaction number that
-    /// isn't there. The client isn't changed by this.
+    /// Adds a reply that was stored, of a client that is there: to a transaction number at or above the client's mark,
+    /// which has no reply yet. The client doesn't count as changed.
     pub fn restore_reply(&mut self, client: u64, tid: u64, reply: Reply) -> Result<(), Unfit>
         ensures taken { OnOk result (TakesReply (table self.old) (table self.new) client tid reply) }
         ensures same { OnErr result (table self.new ≡ table self.old) }

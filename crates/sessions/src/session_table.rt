@@ -146,8 +146,8 @@ impl Sessions {
     }
 
     /// Keeps the reply to a request that was applied at this place of the history, for which room was made, and tells
-    /// where the client's session is then. It can't fail. The client's mark rises to the request's `oldest`, and the client
-    /// is changed.
+    /// where the client's session is then. It can't fail. The client's mark rises to the request's `oldest`, and the
+    /// client is changed.
     pub fn keep(&mut self, at: SessionAt, tid: u64, oldest: u64, place: usize) -> SessionAt
         requires there { IsSessionAt self.old at }
         requires ready { IsReady self.old at.client }
@@ -282,15 +282,15 @@ impl Sessions {
         }
     }
 
-    /// The clients whose mark or replies are others than when these clients were last cleared, in the order in which they
-    /// were first changed.
+    /// The clients whose mark or kept replies were changed since `clear_changed` was last called, in the order in which
+    /// this happened first: those to whom a reply was kept.
     pub fn changed(&self) -> &[u64]
         ensures { result.now ≡ self.now.changed }
     {
         &self.changed
     }
 
-    /// No client is changed any more: what is kept of each is stored.
+    /// Counts no client as changed any more. It is called once what is kept of the changed ones is stored.
     pub fn clear_changed(&mut self)
         ensures none { self.new.changed ≡ [] }
         ensures same { table self.new ≡ table self.old }

@@ -1,4 +1,5 @@
 use Rattle.sessions.proofs.Common.{IsRestored, of_mark, subst, sym, with_reply, ◌++◌, ◌∷◌, []}
+use Rattle.sessions.proofs.AlikeLaws.{stands_for}
 use Rattle.sessions.proofs.RestoredLaws.{kept_stored, restored_client, restored_none, restored_reply}
 use Rattle.sessions.proofs.laws.restored_sessions_follow.Goals as goal
 
@@ -15,3 +16,6 @@ returns-clause-reply c = λ stored s old new tid reply h takes.
 
 pub returns-clause-kept : goal.returns-clause-kept
 returns-clause-kept c = kept_stored
+
+pub returns-clause-stored : goal.returns-clause-stored
+returns-clause-stored c = stands_for

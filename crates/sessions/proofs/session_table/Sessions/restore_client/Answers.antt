@@ -1,4 +1,4 @@
-use Rattle.sessions.proofs.Common.{IfSome, None, Option, Session, Some, [], ap, ap₂, arith, contents, length, nat_cmp, no_row, rows, sym, told_mark, ◌+◌, ◌++◌, ◌<◌, ◌∙◌, ◌∷◌, ◌≡◌}
+use Rattle.sessions.proofs.Common.{IfSome, None, Option, Session, Some, [], ap, ap₂, arith, contents, length, nat_cmp, no_row, rows, sym, mark_stand_in, ◌+◌, ◌++◌, ◌<◌, ◌∙◌, ◌∷◌, ◌≡◌}
 use Rattle.std.specs.FinMap as map
 use Rattle.sessions.proofs.ChangedLaws.{listed_still}
 use Rattle.sessions.proofs.RestoredLaws.{tells_none, tells_one}
@@ -65,7 +65,7 @@ returns-else-mark-gt0-clause-taken c =
     let indices : contents nat_cmp c.add.new.indices ≡ map.insert m c.args.client (length ss) =
     c.add.ensures ∙ ap₂ (λ a n. map.insert a c.args.client n) c.reserve.ensures.same (c.len-i.ensures ∙ c.reserve-2.ensures.len ∙ c.self.inside.sessions.ok.0) in
     let items : c.push_reserved.new.self.items ≡ ss ++ c.marked.result ∷ [] = c.push_reserved.ensures.items ∙ ap (λ l. l ++ c.marked.result ∷ []) c.reserve-2.ensures.items in
-    let still : c.self.inside.forgotten ≡ c.self.inside.forgotten + length (told_mark c.args.client c.args.mark) = omega (arith, tells_none c.args.client c.args.mark c.if-mark-gt0.false) in
+    let still : c.self.inside.forgotten ≡ c.self.inside.forgotten + length (mark_stand_in c.args.client c.args.mark) = omega (arith, tells_none c.args.client c.args.mark c.if-mark-gt0.false) in
     rw (← c.self.view_is) (record {
       unknown = no_row_there m ss c.args.client none;
       table = ap₂ behind still
