@@ -19,3 +19,6 @@ invariant_of-new-clause-begins g c = begins_first g.L.Handed.first c.args.book c
 
 pub invariant_of-new-clause-goes_on : goal.invariant_of-new-clause-goes_on
 invariant_of-new-clause-goes_on g c = behind_first g.L.Handed.first c.args.book c.requires.first
+
+pub returns-in-Ok-ran-clause-one_thread : goal.returns-in-Ok-ran-clause-one_thread
+returns-in-Ok-ran-clause-one_thread g c = rw (← c.requires.sent, ← c.requires.first) c.settled.ensures.one_thread
