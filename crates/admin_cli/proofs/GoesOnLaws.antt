@@ -1,5 +1,5 @@
 -- A load's book goes on.
-use Rattle.admin_cli.proofs.Common.{IsSoundKept, KeptState, List, Opening, Option, Some, StandsBehind, [], ap, append-nil, append_assoc, drop, subst, sym, take, take-append-drop, ℕ, ◌++◌, ◌∙◌, ◌≡◌}
+use Rattle.admin_cli.proofs.Common.{IsSoundKept, KeptState, List, Opening, Option, Some, StandsBehind, [], ap, append-nil, append_assoc, drop, fresh, refl, subst, sym, take, take-append-drop, ℕ, ◌++◌, ◌∙◌, ◌≡◌}
 use Rattle.std.specs.FinMap as map
 use Rattle.std.specs.Prelude.{IfSome}
 use Rattle.mds_types.specs.Tree.{Tree}
@@ -36,7 +36,11 @@ goes_on_forgot a b count left on = λ opening past given.
     append_assoc past (take count a.history) b.history ∙ ap (λ (es : List Entry). past ++ es) (ap (λ (es : List Entry). take count a.history ++ es) left ∙ take-append-drop count a.history) in
     record { forgotten = went; behind = on opening past given; grows = ([], same ∙ sym (append-nil (past ++ a.history))) }
 
--- a book that grew from one that opened with the empty tree did, too
+-- a new book opened with the empty tree,
+pub opens_fresh : (book : KeptState) → StandsBehind (fresh map.empty) [] book → OpensEmpty book
+opens_fresh book behind = (fresh map.empty, refl, [], behind)
+
+-- and so did a book that grew from one that did
 pub opens_still : (a b : KeptState) → BookGrows a b → OpensEmpty a → OpensEmpty b
 opens_still a b grows (opening, empty, past, behind) = let its = grows opening past behind in (opening, empty, its.forgotten, its.behind)
 

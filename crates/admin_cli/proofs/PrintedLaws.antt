@@ -859,6 +859,6 @@ pub prints_new : (ranks cache limit : ℕ) (known before after : Option (List �
 prints_new ranks cache limit known before after result book formatted h =
     let limited : book.core.state.tree.limit ≡ limit = ap (λ (s : State). s.tree.limit) formatted.state in
     let waits : waiting_in book.core.state.inboxes ≡ [] = ap (λ (s : State). waiting_in s.inboxes) formatted.state ∙ none_wait ranks in
-    subst (λ (n : ℕ). PrintsOneThread n finite.empty [] [] known before after result) limited
-    (subst (λ (es : List Entry). PrintsOneThread book.core.state.tree.limit finite.empty es [] known before after result) formatted.history
+    subst (λ (n : ℕ). PrintsOneThread n (fresh finite.empty) [] [] known before after result) limited
+    (subst (λ (es : List Entry). PrintsOneThread book.core.state.tree.limit (fresh finite.empty) es [] known before after result) formatted.history
     (subst (λ (ws : List Request). PrintsOneThread book.core.state.tree.limit (fresh finite.empty) book.history ws known before after result) waits (h (fresh finite.empty) [] formatted.goes_on)))

@@ -85,6 +85,7 @@ pub fn run_watched<W: Write, R: Threads + Wait + Sync + AllocGlobal, G: Gate>(
 pub const CACHE: u32 = 4096;
 
 // A new book over an empty store in memory.
+#[tactic(auto, using(crate::proofs::GoesOnLaws::opens_fresh))]
 fn new_book(alloc: Global, ranks: u8) -> Option<Book<MemStore>>
     requires some { 1 ≤ ranks }
     requires ranked { ranks ≤ 16 }
