@@ -1,5 +1,5 @@
 //! A store of objects that outlives the process: objects in memory, from which all is read, the names and keys that
-//! changed, and tables that mirror them.
+//! changed, and tables that mirror them and have the session map beside them.
 #![tactic(auto)]
 
 mod kept;
