@@ -1,5 +1,5 @@
 //! The three tables.
-ghost use Rattle.std.specs.Prelude.{◌≡◌, ◌∷◌, [], IsTrue, map};
+ghost use Rattle.std.specs.Prelude.{◌≡◌, ◌∷◌, [], IsTrue, codes, map};
 ghost use Rattle.sqlite_value.specs.Keys.{plain};
 ghost use Rattle.sqlite_trees.specs.declared.store.Shape.TheVariants.{Index};
 ghost use Rattle.object_tables.specs.Spelled.{HasTables};
@@ -27,7 +27,8 @@ pub fn schema() -> [Object<'static>; 3]
 
 /// What a database lists that was made before there was a session map: the tables of objects and of pairs.
 pub fn objects_schema() -> [Object<'static>; 2]
-    ensures { map (λ o. o.shape) result ≡ Index plain ∷ Index plain ∷ [] }
+    ensures shapes { map (λ o. o.shape) result ≡ Index plain ∷ Index plain ∷ [] }
+    ensures names { map (λ o. o.name.now) result ≡ codes "object" ∷ codes "omap" ∷ [] }
 {
     [
         table(
@@ -43,7 +44,8 @@ pub fn objects_schema() -> [Object<'static>; 2]
 
 /// The table of the session map.
 pub fn sessions_table() -> Object<'static>
-    ensures { result.shape ≡ Index plain }
+    ensures shape { result.shape ≡ Index plain }
+    ensures name { result.name.now ≡ codes "session_map" }
 {
     table(
         "session_map",
@@ -53,7 +55,8 @@ pub fn sessions_table() -> Object<'static>
 
 // A table WITHOUT ROWID.
 fn table(name: &'static str, sql: &'static str) -> Object<'static>
-    ensures { result.shape ≡ Index plain }
+    ensures shape { result.shape ≡ Index plain }
+    ensures name { result.name.now ≡ name.now }
 {
     Object {
         shape: Shape::Index(Order::PLAIN),
