@@ -6,7 +6,8 @@ ghost use Rattle.object_tables.specs.Sessions.{SessionRows, edited};
 ghost use Rattle.object_tables.specs.Spelled.{SpellsObjects};
 ghost use Rattle.sqlite_trees.specs.Tree.{Trees as Rows};
 ghost use Rattle.sqlite_trees.specs.View.{IsClean, doubt};
-ghost use Rattle.kept_store.specs.Kept.{FindsOutcome, HasBoth, RecoversObjects, IsFreshMirror, IsMirrored, StoresRows, unkept_of};
+ghost use Rattle.kept_store.specs.Kept.{FindsOutcome, HasBoth, IsFreshMirror, IsMirrored, RecoversObjects, StoresRows};
+ghost use Rattle.kept_store.specs.Kept.{unkept_of};
 
 use crate::noting::{note_object, note_write};
 use crate::settling::Settle;
@@ -96,8 +97,8 @@ impl<T: Trees + Drop> Kept<T> {
         ensures kept { OnOk result (self.new.noted ≡ none_noted) }
         ensures noted { OnErr result (self.new.noted ≡ self.old.noted) }
         ensures objects { self.new.objects ≡ self.old.objects }
-        ensures rows { IsClean (T.Store.view self.new.tables) → (rows : SessionRows) → StoresRows (T.Store.recovers self.old.tables) rows
-            → StoresRows (T.Store.recovers self.new.tables) rows }
+        ensures rows { IsClean (T.Store.view self.new.tables) → (rows : SessionRows)
+            → StoresRows (T.Store.recovers self.old.tables) rows → StoresRows (T.Store.recovers self.new.tables) rows }
         ensures crash { IsClean (T.Store.view self.new.tables) → (db : Rows) → T.Store.recovers self.new.tables db
             → T.Store.recovers self.old.tables db ⊎ SpellsObjects db self.new.objects }
         ensures clean { doubt (T.Store.view self.old.tables).is_clean ≤ doubt (T.Store.view self.new.tables).is_clean }
@@ -105,20 +106,22 @@ impl<T: Trees + Drop> Kept<T> {
         self.keep_with(&[])
     }
 
-    /// Brings what changed into the tables, with edits of the session map, all in one transaction. Whatever it answers, and
-    /// wherever it is cut off, a crash leaves what it could leave before, or tables that spell exactly the objects and have
-    /// exactly the edited rows. Where it fails, what was noted stays noted, so that the next call brings it too, and no
-    /// edit is made; tables that are shut take nothing any more, and only another open tells which of the two they have.
+    /// Brings what changed into the tables, with edits of the session map, all in one transaction. Whatever it answers,
+    /// and wherever it is cut off, a crash leaves what it could leave before, or tables that spell exactly the objects
+    /// and have exactly the edited rows. Where it fails, what was noted stays noted, so that the next call brings it too,
+    /// and no edit is made. Tables that are shut take nothing any more: only another open tells which of both they have.
     pub fn keep_with(&mut self, edits: &[RowEdit]) -> Result<(), StoreError>
         ensures kept { OnOk result (self.new.noted ≡ none_noted) }
         ensures noted { OnErr result (self.new.noted ≡ self.old.noted) }
         ensures objects { self.new.objects ≡ self.old.objects }
-        ensures rows { OnOk result (IsClean (T.Store.view self.new.tables) → (rows : SessionRows) → StoresRows (T.Store.recovers self.old.tables) rows
+        ensures rows { OnOk result (IsClean (T.Store.view self.new.tables) → (rows : SessionRows)
+            → StoresRows (T.Store.recovers self.old.tables) rows
             → StoresRows (T.Store.recovers self.new.tables) (edited edits.now rows)) }
-        ensures failed { OnErr result (IsClean (T.Store.view self.new.tables) → IsTrue (T.Store.view self.new.tables).is_open
-            → (db : Rows) → T.Store.recovers self.new.tables db → T.Store.recovers self.old.tables db) }
+        ensures failed { OnErr result (IsClean (T.Store.view self.new.tables)
+            → IsTrue (T.Store.view self.new.tables).is_open → (db : Rows) → T.Store.recovers self.new.tables db → T.Store.recovers self.old.tables db) }
         ensures crash { IsClean (T.Store.view self.new.tables) → (db : Rows) → T.Store.recovers self.new.tables db
-            → T.Store.recovers self.old.tables db ⊎ HasBoth (T.Store.recovers self.old.tables) db self.new.objects edits.now }
+            → T.Store.recovers self.old.tables db
+            ⊎ HasBoth (T.Store.recovers self.old.tables) db self.new.objects edits.now }
         ensures clean { doubt (T.Store.view self.old.tables).is_clean ≤ doubt (T.Store.view self.new.tables).is_clean }
     {
         if self.tables.is_broken() {
@@ -137,7 +140,8 @@ impl<T: Trees + Drop> Kept<T> {
 
     /// The rows of the session map, as the tables have them. Takes memory for all of them.
     pub fn session_rows(&mut self) -> Result<Pairs, ReadFault>
-        ensures rows { IfOk result (λ rows. IsClean (T.Store.view self.new.tables) → StoresRows (T.Store.recovers self.new.tables) rows) }
+        ensures rows { IfOk result (λ rows. IsClean (T.Store.view self.new.tables)
+            → StoresRows (T.Store.recovers self.new.tables) rows) }
         ensures objects { self.new.objects ≡ self.old.objects }
         ensures noted { self.new.noted ≡ self.old.noted }
         ensures crash { (db : Rows) → T.Store.recovers self.new.tables db → T.Store.recovers self.old.tables db }

@@ -26,13 +26,17 @@ pub struct RowEdit {
 /// All rows of the session map, exactly. Where it fails, the transaction is rolled back.
 pub fn read_session_rows<T: Store>(trees: &mut T, alloc: Global) -> Result<Pairs, ReadFault>
     requires { IsClean (T.Store.view trees.old) → HasTables (T.Store.view trees.old) }
-    ensures ok { IfOk result (λ rows. IsClean (T.Store.view trees.new) → HasSessionRows (T.Store.view trees.old).trees rows) }
+    ensures ok { IfOk result (λ rows. IsClean (T.Store.view trees.new)
+        → HasSessionRows (T.Store.view trees.old).trees rows) }
     ensures same { OnOk result (IsClean (T.Store.view trees.new)
         → T.Store.view trees.new ≡ record (T.Store.view trees.old) { cursors = (T.Store.view trees.new).cursors }) }
-    ensures fresh { IsClean (T.Store.view trees.new) → (T.Store.view trees.old).trees ≡ (T.Store.view trees.old).committed
-        → IsTrue (T.Store.view trees.new).is_open → (T.Store.view trees.new).trees ≡ (T.Store.view trees.new).committed }
-    ensures shape { IsClean (T.Store.view trees.new) → (T.Store.view trees.old).shape ≡ (T.Store.view trees.old).committed_shape
-        → ((T.Store.view trees.new).shape ≡ (T.Store.view trees.old).shape) × ((T.Store.view trees.new).committed_shape ≡ (T.Store.view trees.old).shape) }
+    ensures fresh { IsClean (T.Store.view trees.new)
+        → (T.Store.view trees.old).trees ≡ (T.Store.view trees.old).committed → IsTrue (T.Store.view trees.new).is_open
+        → (T.Store.view trees.new).trees ≡ (T.Store.view trees.new).committed }
+    ensures shape { IsClean (T.Store.view trees.new)
+        → (T.Store.view trees.old).shape ≡ (T.Store.view trees.old).committed_shape
+        → ((T.Store.view trees.new).shape ≡ (T.Store.view trees.old).shape)
+        × ((T.Store.view trees.new).committed_shape ≡ (T.Store.view trees.old).shape) }
     ensures quiet { IsQuiet T.Store.view T.Store.faults T.Store.recovers T.Store.is_shielded trees.old trees.new }
 {
     match read_rows(trees, alloc) {
@@ -47,7 +51,8 @@ pub fn read_session_rows<T: Store>(trees: &mut T, alloc: Global) -> Result<Pairs
 // All rows.
 fn read_rows<T: Store>(trees: &mut T, alloc: Global) -> Result<Pairs, ReadFault>
     requires { IsClean (T.Store.view trees.old) → HasTables (T.Store.view trees.old) }
-    ensures ok { IfOk result (λ rows. IsClean (T.Store.view trees.new) → HasSessionRows (T.Store.view trees.old).trees rows) }
+    ensures ok { IfOk result (λ rows. IsClean (T.Store.view trees.new)
+        → HasSessionRows (T.Store.view trees.old).trees rows) }
     ensures same { OnOk result (IsClean (T.Store.view trees.new)
         → T.Store.view trees.new ≡ record (T.Store.view trees.old) { cursors = (T.Store.view trees.new).cursors }) }
     ensures schema { KeepsSchema (T.Store.view trees.old) (T.Store.view trees.new) }
@@ -91,9 +96,12 @@ pub fn write_rows<T: Store>(
 ) -> Result<(), StoreError>
     requires { IsClean (T.Store.view trees.old) → HasTables (T.Store.view trees.old) }
     ensures ok { OnOk result (IsClean (T.Store.view trees.new) → (rows : SessionRows)
-        → HasSessionRows (T.Store.view trees.old).trees rows → HasSessionRows (T.Store.view trees.new).trees (edited edits.now rows)) }
-    ensures others { OnOk result (IsClean (T.Store.view trees.new) → LeavesOthers (T.Store.view trees.old) (T.Store.view trees.new) 2) }
-    ensures frame { OnOk result (IsClean (T.Store.view trees.new) → OnlyWrites (T.Store.view trees.old) (T.Store.view trees.new)) }
+        → HasSessionRows (T.Store.view trees.old).trees rows
+        → HasSessionRows (T.Store.view trees.new).trees (edited edits.now rows)) }
+    ensures others { OnOk result (IsClean (T.Store.view trees.new)
+        → LeavesOthers (T.Store.view trees.old) (T.Store.view trees.new) 2) }
+    ensures frame { OnOk result (IsClean (T.Store.view trees.new)
+        → OnlyWrites (T.Store.view trees.old) (T.Store.view trees.new)) }
     ensures schema { KeepsSchema (T.Store.view trees.old) (T.Store.view trees.new) }
     ensures quiet { IsQuiet T.Store.view T.Store.faults T.Store.recovers T.Store.is_shielded trees.old trees.new }
 {
@@ -111,10 +119,13 @@ fn put_row<T: Store>(
     row: &mut Row,
 ) -> Result<(), StoreError>
     requires { IsClean (T.Store.view trees.old) → HasTables (T.Store.view trees.old) }
-    ensures ok { OnOk result (IsClean (T.Store.view trees.new) → IsKeyedTable one_blob ((T.Store.view trees.old).trees 2)
+    ensures ok { OnOk result (IsClean (T.Store.view trees.new)
+        → IsKeyedTable one_blob ((T.Store.view trees.old).trees 2)
         → PutsRow (T.Store.view trees.old) (T.Store.view trees.new) 2 (session_key edit.now.key) edit.now.value) }
-    ensures others { OnOk result (IsClean (T.Store.view trees.new) → LeavesOthers (T.Store.view trees.old) (T.Store.view trees.new) 2) }
-    ensures frame { OnOk result (IsClean (T.Store.view trees.new) → OnlyWrites (T.Store.view trees.old) (T.Store.view trees.new)) }
+    ensures others { OnOk result (IsClean (T.Store.view trees.new)
+        → LeavesOthers (T.Store.view trees.old) (T.Store.view trees.new) 2) }
+    ensures frame { OnOk result (IsClean (T.Store.view trees.new)
+        → OnlyWrites (T.Store.view trees.old) (T.Store.view trees.new)) }
     ensures schema { KeepsSchema (T.Store.view trees.old) (T.Store.view trees.new) }
     ensures quiet { IsQuiet T.Store.view T.Store.faults T.Store.recovers T.Store.is_shielded trees.old trees.new }
 {

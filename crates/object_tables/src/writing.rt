@@ -25,9 +25,9 @@ use std::alloc::{AllocError, Global};
 
 /// Brings what changed into the tables, with edits of the session map, all in one transaction. Where the tables have
 /// spelled all objects but those names and keys, with a row for each pair's object, the last commit spells exactly the
-/// objects then, and has exactly the edited rows. Whatever it answers, and wherever it is cut off, a crash leaves what it
-/// could leave before, or tables that have both. Where it fails, and the tables are still open, a crash leaves what it
-/// could leave before.
+/// objects then, and has exactly the edited rows. Whatever it answers, and wherever it is cut off, a crash leaves what
+/// it could leave before, or tables that have both. Where it fails, and the tables are still open, a crash leaves what
+/// it could leave before.
 pub fn save<T: Store>(
     trees: &mut T,
     alloc: Global,
@@ -97,7 +97,8 @@ fn write_headers<T: Store>(
     ensures fresh { IfOk result (λ fresh. IsClean (T.Store.view trees.new) → (keys : List ℕ → List ℕ → Bool)
         → SpellsBut (T.Store.view trees.old).trees objects.now (is_name_of names.entry) keys → HaveOwners (T.Store.view trees.old).trees
         → AreRight ((T.Store.view trees.new).trees 1) objects.now (map.contains_key fresh)) }
-    ensures others { OnOk result (IsClean (T.Store.view trees.new) → LeavesOthers (T.Store.view trees.old) (T.Store.view trees.new) 0) }
+    ensures others { OnOk result (IsClean (T.Store.view trees.new)
+        → LeavesOthers (T.Store.view trees.old) (T.Store.view trees.new) 0) }
     ensures frame { OnOk result (IsClean (T.Store.view trees.new) → OnlyWrites (T.Store.view trees.old) (T.Store.view trees.new)) }
     ensures schema { KeepsSchema (T.Store.view trees.old) (T.Store.view trees.new) }
     ensures quiet { IsQuiet T.Store.view T.Store.faults T.Store.recovers T.Store.is_shielded trees.old trees.new }
@@ -137,7 +138,8 @@ fn write_pairs<T: Store>(
         → AreRight ((T.Store.view trees.old).trees 1) objects.now (map.contains_key fresh.now)
         → SpellsBut (T.Store.view trees.old).trees objects.now names (is_key_of keys.entry)
         → SpellsBut (T.Store.view trees.new).trees objects.now names (λ _ _. false)) }
-    ensures others { OnOk result (IsClean (T.Store.view trees.new) → LeavesOthers (T.Store.view trees.old) (T.Store.view trees.new) 1) }
+    ensures others { OnOk result (IsClean (T.Store.view trees.new)
+        → LeavesOthers (T.Store.view trees.old) (T.Store.view trees.new) 1) }
     ensures frame { OnOk result (IsClean (T.Store.view trees.new) → OnlyWrites (T.Store.view trees.old) (T.Store.view trees.new)) }
     ensures schema { KeepsSchema (T.Store.view trees.old) (T.Store.view trees.new) }
     ensures quiet { IsQuiet T.Store.view T.Store.faults T.Store.recovers T.Store.is_shielded trees.old trees.new }
@@ -183,11 +185,13 @@ fn put_header<T: Store>(
     row: &mut Row,
 ) -> Result<bool, StoreError>
     requires { IsClean (T.Store.view trees.old) → HasTables (T.Store.view trees.old) }
-    ensures ok { OnOk result (IsClean (T.Store.view trees.new) → IsKeyedTable one_text ((T.Store.view trees.old).trees 0)
+    ensures ok { OnOk result (IsClean (T.Store.view trees.new)
+        → IsKeyedTable one_text ((T.Store.view trees.old).trees 0)
         → PutsRow (T.Store.view trees.old) (T.Store.view trees.new) 0 (object_key name.now) (option_copied header.entry)) }
     ensures new { IfOk result (λ is_new. IsClean (T.Store.view trees.new) → is_new ≡ true
         → (is_some (option_copied header.entry) ≡ true) × (HasRow ((T.Store.view trees.old).trees 0) (object_key name.now) → ⊥)) }
-    ensures others { OnOk result (IsClean (T.Store.view trees.new) → LeavesOthers (T.Store.view trees.old) (T.Store.view trees.new) 0) }
+    ensures others { OnOk result (IsClean (T.Store.view trees.new)
+        → LeavesOthers (T.Store.view trees.old) (T.Store.view trees.new) 0) }
     ensures frame { OnOk result (IsClean (T.Store.view trees.new) → OnlyWrites (T.Store.view trees.old) (T.Store.view trees.new)) }
     ensures schema { KeepsSchema (T.Store.view trees.old) (T.Store.view trees.new) }
     ensures quiet { IsQuiet T.Store.view T.Store.faults T.Store.recovers T.Store.is_shielded trees.old trees.new }
@@ -209,11 +213,13 @@ fn put_pair<T: Store>(
     row: &mut Row,
 ) -> Result<(), StoreError>
     requires { IsClean (T.Store.view trees.old) → HasTables (T.Store.view trees.old) }
-    ensures ok { OnOk result (IsClean (T.Store.view trees.new) → IsKeyedTable two_texts ((T.Store.view trees.old).trees 1)
+    ensures ok { OnOk result (IsClean (T.Store.view trees.new)
+        → IsKeyedTable two_texts ((T.Store.view trees.old).trees 1)
         → (is_new ≡ true → (v : List ℕ) → IsIn (entry (pair_key spot.now.0 spot.now.1) v) ((T.Store.view trees.old).trees 1)
         → option_copied value.entry ≡ Some v)
         → PutsRow (T.Store.view trees.old) (T.Store.view trees.new) 1 (pair_key spot.now.0 spot.now.1) (option_copied value.entry)) }
-    ensures others { OnOk result (IsClean (T.Store.view trees.new) → LeavesOthers (T.Store.view trees.old) (T.Store.view trees.new) 1) }
+    ensures others { OnOk result (IsClean (T.Store.view trees.new)
+        → LeavesOthers (T.Store.view trees.old) (T.Store.view trees.new) 1) }
     ensures frame { OnOk result (IsClean (T.Store.view trees.new) → OnlyWrites (T.Store.view trees.old) (T.Store.view trees.new)) }
     ensures schema { KeepsSchema (T.Store.view trees.old) (T.Store.view trees.new) }
     ensures quiet { IsQuiet T.Store.view T.Store.faults T.Store.recovers T.Store.is_shielded trees.old trees.new }

@@ -107,8 +107,8 @@ fn open_other<D: Disk + Drop>(
     }
 }
 
-// Opens a database that was made before there was a session map, and makes its table, which is empty then. A crash leaves
-// the two tables that were there, or all three.
+// Opens a database that was made before there was a session map, and makes its table, which is empty then. A crash
+// leaves the two tables that were there, or all three.
 fn open_older<D: Disk + Drop>(
     alloc: Global,
     files: Files<D>,
