@@ -7,7 +7,8 @@ from formats import (ENDING, ROOT, Header, Unsound, bits_of, bytes_of, entry_of,
                      tree_bytes, tree_name, wants)
 
 TABLES = ('CREATE TABLE object (name TEXT NOT NULL PRIMARY KEY, header BLOB NOT NULL) WITHOUT ROWID',
-          'CREATE TABLE omap (object TEXT NOT NULL, key TEXT NOT NULL, value BLOB NOT NULL, PRIMARY KEY (object, key)) WITHOUT ROWID')
+          'CREATE TABLE omap (object TEXT NOT NULL, key TEXT NOT NULL, value BLOB NOT NULL, PRIMARY KEY (object, key)) WITHOUT ROWID',
+          'CREATE TABLE session_map (key BLOB NOT NULL PRIMARY KEY, value BLOB NOT NULL) WITHOUT ROWID')
 
 
 def copied(path, to):

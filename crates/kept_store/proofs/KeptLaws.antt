@@ -1,5 +1,5 @@
 -- What a mirror stands for after each call.
-use Rattle.std.proofs.Common.{◌≡◌, ◌⊎◌, ℕ, Bool, true, false, List, IsTrue, refl, sym, ap, subst, ◌∙◌, inl, inr, true≢false}
+use Rattle.std.proofs.Common.{◌≡◌, ◌⊎◌, ℕ, Bool, true, false, List, [], Err, IsTrue, Ok, OnErr, Result, refl, sym, ap, subst, ◌∙◌, inl, inr, true≢false}
 use Rattle.std.specs.FinMap.{get-empty}
 use Rattle.objstore.specs.Omap.{key_cmp}
 use Rattle.objstore.specs.Objects.{Objects}
@@ -7,14 +7,21 @@ use Rattle.sqlite_trees.specs.Tree.{Trees}
 use Rattle.sqlite_trees.specs.View.{IsClean, IsReopened, View}
 use Rattle.object_tables.specs.Entries.{Says}
 use Rattle.object_tables.specs.Noted.{Noted, has_key, has_name, none_noted, spot_cmp}
+use Rattle.object_tables.specs.declared.sessions.RowEdit.{RowEdit}
+use Rattle.object_tables.specs.Sessions.{Brings, HasSessionRows, SessionRows}
 use Rattle.object_tables.specs.Spelled.{HasTables, HaveOwners, SpellsObjects, SpellsBut, object_key, pair_key}
 use Rattle.object_tables.proofs.SpelledLaws.{one_spelling, spells_less, spells_owned}
-use Rattle.kept_store.specs.Kept.{IsFreshMirror, IsMirrored, IsReady}
+use Rattle.kept_store.specs.Kept.{HasBoth, IsFreshMirror, IsMirrored, IsReady, StoresRows}
 use Rattle.kept_store.specs.Noting.{AgreeBut, IsMore}
 
 is_false : (b : Bool) → (b ≡ true → ⊥) → b ≡ false
 is_false true away = absurd (away refl)
 is_false false away = refl
+
+-- what holds anyway holds where there is an error
+pub on_err : {A E P : Type 0} (r : Result A E) → P → OnErr r P
+on_err (Ok a) p = tt
+on_err (Err e) p = p
 
 -- nothing is among no names and no keys
 pub no_name : (n : List ℕ) → has_name none_noted n ≡ false
@@ -52,6 +59,7 @@ pub tables_stay : (old new : View) → new.shape ≡ old.shape → HasTables old
 tables_stay old new same t = record {
   objects = ap (λ (f : ℕ → _). f 0) same ∙ t.objects;
   pairs = ap (λ (f : ℕ → _). f 1) same ∙ t.pairs;
+  sessions = ap (λ (f : ℕ → _). f 2) same ∙ t.sessions;
 }
 
 -- ---- an open
@@ -78,6 +86,14 @@ pub seen : (v : View) (recovers : Trees → Type 0) (objects : Objects) (noted :
 seen v recovers objects noted m is_open stays =
     let same = sym (m.ready is_open).fresh in
     (subst (λ t. SpellsBut t objects (has_name noted) (has_key noted)) same (m.outcomes v.committed (stays is_open)), subst HaveOwners same (m.owners v.committed (stays is_open)))
+
+-- what the transaction brings into tables: both
+pub both_of : (v : View) (recovers : Trees → Type 0) (objects : Objects) (noted : Noted) (edits : List RowEdit) → IsMirrored v recovers objects noted
+    → IsTrue v.is_open → (IsTrue v.is_open → recovers v.committed) → (db : Trees) → Brings v.trees db objects noted edits → HasBoth recovers db objects edits
+both_of v recovers objects noted edits m is_open stays db brings =
+    let all = seen v recovers objects noted m is_open stays in
+    let both = brings all.0 all.1 in
+    (both.0, λ rows stored. both.1 rows (subst (λ t. HasSessionRows t rows) (sym (m.ready is_open).fresh) (stored v.committed (stays is_open))))
 
 ready_after : (old new : View) → IsReady old → (new.shape ≡ old.shape) × (new.committed_shape ≡ old.shape) → (IsTrue new.is_open → new.trees ≡ new.committed)
     → IsTrue new.is_open → IsReady new
@@ -126,17 +142,24 @@ open_of true b shut sound = refl
 open_of false b shut sound = absurd (true≢false (sym (shut refl) ∙ sound))
 
 -- what a crash leaves of a save
-pub crash_of : (old : View) (before after : Trees → Type 0) (objects : Objects) (noted : Noted) → IsMirrored old before objects noted
+pub crash_of : (old : View) (before after : Trees → Type 0) (objects : Objects) (noted : Noted) (edits : List RowEdit) → IsMirrored old before objects noted
     → (old.is_open ≡ false → old.is_broken ≡ true) → (IsTrue old.is_open → before old.committed)
-    → ((db : Trees) → after db → before db ⊎ ((old.is_broken ≡ false)
-    × (SpellsBut old.trees objects (has_name noted) (has_key noted) → HaveOwners old.trees → SpellsObjects db objects)))
-    → (db : Trees) → after db → before db ⊎ SpellsObjects db objects
-crash_of old before after objects noted m shut stays crash db may = elim (crash db may) [
+    → ((db : Trees) → after db → before db ⊎ ((old.is_broken ≡ false) × Brings old.trees db objects noted edits))
+    → (db : Trees) → after db → before db ⊎ HasBoth before db objects edits
+crash_of old before after objects noted edits m shut stays crash db may = elim (crash db may) [
   | inl was ↦ inl was
-  | inr it ↦
-      let all = seen old before objects noted m (open_of old.is_open old.is_broken shut it.0) stays in
-      inr (it.1 all.0 all.1)
+  | inr it ↦ inr (both_of old before objects noted edits m (open_of old.is_open old.is_broken shut it.0) stays db it.1)
 ]
+
+-- and of its objects alone
+pub objects_of : (before : Trees → Type 0) (db : Trees) (objects : Objects) (edits : List RowEdit) → before db ⊎ HasBoth before db objects edits
+    → before db ⊎ SpellsObjects db objects
+objects_of before db objects edits crash = elim crash [ inl was ↦ inl was | inr both ↦ inr both.0 ]
+
+-- and of its rows, where there are no edits
+pub rows_of : (before : Trees → Type 0) (db : Trees) (objects : Objects) (rows : SessionRows) → before db ⊎ HasBoth before db objects [] → StoresRows before rows
+    → HasSessionRows db rows
+rows_of before db objects rows crash stored = elim crash [ inl was ↦ stored db was | inr both ↦ both.1 rows stored ]
 
 -- ---- after a crash
 
@@ -154,3 +177,13 @@ pub back_again : (old new : View) (before : Trees → Type 0) (a b : Objects) (n
 back_again old new before a b noted m may spelled all =
     one_spelling new.committed b a spelled
     (spells_all new.committed a (subst (λ (n : Noted). SpellsBut new.committed a (has_name n) (has_key n)) all (m.outcomes new.committed may)))
+
+-- the session map of tables that were read, or that couldn't be
+pub read_on : (old new : View) (before after : Trees → Type 0) (objects : Objects) (noted : Noted) → IsMirrored old before objects noted → IsTrue old.is_open
+    → (new.shape ≡ old.shape) × (new.committed_shape ≡ old.shape) → (IsTrue new.is_open → new.trees ≡ new.committed)
+    → ((db : Trees) → after db → before db) → IsMirrored new after objects noted
+read_on old new before after objects noted m is_open shapes fresh fewer = record {
+  ready = ready_after old new (m.ready is_open) shapes fresh;
+  outcomes = λ db may. m.outcomes db (fewer db may);
+  owners = λ db may. m.owners db (fewer db may);
+}

@@ -1,5 +1,5 @@
 -- A store that is mirrored in tables, as contracts see it, and the law of every such store.
-use Rattle.std.specs.Prelude.{◌≡◌, IsTrue}
+use Rattle.std.specs.Prelude.{◌≡◌, IsTrue, List}
 use Rattle.objstore.specs.Objects.{Objects}
 use Rattle.sqlite_trees.specs.Tree.{Trees}
 use Rattle.sqlite_trees.specs.View.{View}
@@ -8,6 +8,8 @@ use Rattle.sqlite_trees.specs.declared.error.StoreError.TheVariants.{OutOfMemory
 use Rattle.keeping.specs.declared.unkept.Unkept.{Unkept}
 use Rattle.keeping.specs.declared.unkept.Unkept.TheVariants as told
 use Rattle.object_tables.specs.Noted.{Noted, has_key, has_name}
+use Rattle.object_tables.specs.declared.sessions.RowEdit.{RowEdit}
+use Rattle.object_tables.specs.Sessions.{HasSessionRows, SessionRows, edited}
 use Rattle.object_tables.specs.Spelled.{HasTables, HaveOwners, SpellsObjects, SpellsBut}
 
 -- the objects; the names and keys that changed since they were last written into the tables; and the tables
@@ -37,6 +39,23 @@ pub record IsFreshMirror (v : View) : Type 0 where
 -- an outcome of a crash spells the objects
 abbrev pub RecoversObjects : (Trees → Type 0) → Objects → Type 0
 RecoversObjects recovers objects = (db : Trees) × recovers db × SpellsObjects db objects
+
+-- whatever a crash would leave of the tables now has exactly these rows of the session map
+abbrev pub StoresRows : (Trees → Type 0) → SessionRows → Type 0
+StoresRows recovers rows = (db : Trees) → recovers db → HasSessionRows db rows
+
+-- tables have both: exactly the objects, and the rows that edits make of those that were stored before
+abbrev pub HasBoth : (Trees → Type 0) → Trees → Objects → List RowEdit → Type 0
+HasBoth before db objects edits =
+    SpellsObjects db objects × ((rows : SessionRows) → StoresRows before rows → HasSessionRows db (edited edits rows))
+
+-- an outcome of a crash is found: it spells the objects, and is all that a crash would leave of the tables now. So the
+-- session map is that of the outcome, too
+pub record FindsOutcome (before after : Trees → Type 0) (objects : Objects) : Type 0 where
+  pub db : Trees
+  pub was : before db
+  pub spelled : SpellsObjects db objects
+  pub now : (d : Trees) → after d → d ≡ db
 
 -- the public form of an error of the tables
 abbrev pub unkept_of : StoreError → Unkept

@@ -2,17 +2,21 @@
 ghost use Rattle.std.specs.Prelude.{◌≡◌, ◌⊎◌, ◌↔◌, ◌≤◌, IsTrue, IfErr, IfOk, OnErr, OnOk};
 ghost use Rattle.std.specs.FinMap as map;
 ghost use Rattle.object_tables.specs.Noted.{none_noted};
+ghost use Rattle.object_tables.specs.Sessions.{SessionRows, edited};
 ghost use Rattle.object_tables.specs.Spelled.{SpellsObjects};
 ghost use Rattle.sqlite_trees.specs.Tree.{Trees as Rows};
 ghost use Rattle.sqlite_trees.specs.View.{IsClean, doubt};
-ghost use Rattle.kept_store.specs.Kept.{RecoversObjects, IsFreshMirror, IsMirrored, unkept_of};
+ghost use Rattle.kept_store.specs.Kept.{FindsOutcome, HasBoth, IsFreshMirror, IsMirrored, RecoversObjects, StoresRows};
+ghost use Rattle.kept_store.specs.Kept.{unkept_of};
 
 use crate::noting::{note_object, note_write};
 use crate::settling::Settle;
 use keeping::{Keep, Unkept};
 use mds_types::{Bytes, Refusal};
-use object_tables::{Changes, ReadFault, has_tables, read_objects, save};
-use objstore::{MemStore, NamePage, Page, Store, WriteOp};
+use object_tables::{
+    Changes, ReadFault, RowEdit, has_tables, read_objects, read_session_rows, save,
+};
+use objstore::{MemStore, NamePage, Page, Pairs, Store, WriteOp};
 use sqlite_trees::error::StoreError;
 use sqlite_trees::store::{Reopen, Store as Trees};
 use std::alloc::Global;
@@ -20,7 +24,7 @@ use std::marker::Model;
 
 /// A store of objects that is mirrored in tables. It has all objects in memory, which serve each read; the names and
 /// keys that changed since the last `keep`; and the tables, which have all but these changes. A write changes memory
-/// alone, so only `keep` is slower than in a store in memory.
+/// alone, so only `keep` is slower than in a store in memory. The session map is in the tables alone.
 #[derive(Drop)]
 pub struct Kept<T: Trees + Drop> {
     objects: MemStore,
@@ -51,6 +55,7 @@ impl<T: Trees + Drop> Kept<T> {
         requires { IsClean (T.Store.view tables) → IsFreshMirror (T.Store.view tables) }
         ensures objects { IfOk result (λ k. IsClean (T.Store.view k.tables) → SpellsObjects (T.Store.view tables).committed k.objects) }
         ensures kept { IfOk result (λ k. k.noted ≡ none_noted) }
+        ensures outcomes { IfOk result (λ k. (db : Rows) → T.Store.recovers k.tables db → T.Store.recovers tables db) }
         ensures clean { IfOk result (λ k. doubt (T.Store.view tables).is_clean ≤ doubt (T.Store.view k.tables).is_clean) }
     {
         match read_objects(&mut tables, alloc) {
@@ -87,23 +92,65 @@ impl<T: Trees + Drop> Kept<T> {
         self.changes.len()
     }
 
-    /// Writes all changes into the tables, in one transaction. Whatever it returns, and wherever it is cut off, a crash
-    /// leaves what it could leave before, or tables that spell exactly the objects. If it fails, the changes stay
-    /// noted, and the next call writes them too. Tables that are shut accept no more changes.
+    /// Writes all changes into the tables, in one transaction: `keep_with` of no edits.
     pub fn keep(&mut self) -> Result<(), StoreError>
         ensures kept { OnOk result (self.new.noted ≡ none_noted) }
         ensures noted { OnErr result (self.new.noted ≡ self.old.noted) }
         ensures objects { self.new.objects ≡ self.old.objects }
+        ensures rows { IsClean (T.Store.view self.new.tables) → (rows : SessionRows)
+            → StoresRows (T.Store.recovers self.old.tables) rows → StoresRows (T.Store.recovers self.new.tables) rows }
         ensures crash { IsClean (T.Store.view self.new.tables) → (db : Rows) → T.Store.recovers self.new.tables db
             → T.Store.recovers self.old.tables db ⊎ SpellsObjects db self.new.objects }
+        ensures clean { doubt (T.Store.view self.old.tables).is_clean ≤ doubt (T.Store.view self.new.tables).is_clean }
+    {
+        self.keep_with(&[])
+    }
+
+    /// Brings what changed into the tables, with edits of the session map, all in one transaction. Whatever it answers,
+    /// and wherever it is cut off, a crash leaves what it could leave before, or tables that spell exactly the objects
+    /// and have exactly the edited rows. Where it fails, what was noted stays noted, so that the next call brings it too,
+    /// and no edit is made. Tables that are shut take nothing any more: only another open tells which of both they have.
+    pub fn keep_with(&mut self, edits: &[RowEdit]) -> Result<(), StoreError>
+        ensures kept { OnOk result (self.new.noted ≡ none_noted) }
+        ensures noted { OnErr result (self.new.noted ≡ self.old.noted) }
+        ensures objects { self.new.objects ≡ self.old.objects }
+        ensures rows { OnOk result (IsClean (T.Store.view self.new.tables) → (rows : SessionRows)
+            → StoresRows (T.Store.recovers self.old.tables) rows
+            → StoresRows (T.Store.recovers self.new.tables) (edited edits.now rows)) }
+        ensures failed { OnErr result (IsClean (T.Store.view self.new.tables)
+            → IsTrue (T.Store.view self.new.tables).is_open → (db : Rows) → T.Store.recovers self.new.tables db → T.Store.recovers self.old.tables db) }
+        ensures crash { IsClean (T.Store.view self.new.tables) → (db : Rows) → T.Store.recovers self.new.tables db
+            → T.Store.recovers self.old.tables db
+            ⊎ HasBoth (T.Store.recovers self.old.tables) db self.new.objects edits.now }
         ensures clean { doubt (T.Store.view self.old.tables).is_clean ≤ doubt (T.Store.view self.new.tables).is_clean }
     {
         if self.tables.is_broken() {
             return Err(StoreError::Broken);
         }
-        save(&mut self.tables, self.alloc, &self.objects, &self.changes)?;
+        save(
+            &mut self.tables,
+            self.alloc,
+            &self.objects,
+            &self.changes,
+            edits,
+        )?;
         self.changes = Changes::none(self.alloc);
         Ok(())
+    }
+
+    /// The rows of the session map, as the tables have them. Takes memory for all of them.
+    pub fn session_rows(&mut self) -> Result<Pairs, ReadFault>
+        ensures rows { IfOk result (λ rows. IsClean (T.Store.view self.new.tables)
+            → StoresRows (T.Store.recovers self.new.tables) rows) }
+        ensures objects { self.new.objects ≡ self.old.objects }
+        ensures noted { self.new.noted ≡ self.old.noted }
+        ensures crash { (db : Rows) → T.Store.recovers self.new.tables db → T.Store.recovers self.old.tables db }
+        ensures clean { doubt (T.Store.view self.old.tables).is_clean ≤ doubt (T.Store.view self.new.tables).is_clean }
+    {
+        if self.tables.is_broken() {
+            return Err(ReadFault::Store(StoreError::Broken));
+        }
+        read_session_rows(&mut self.tables, self.alloc)
     }
 
     /// The law of every kept store, told of this one.
@@ -143,11 +190,14 @@ impl<T: Settle + Drop> Kept<T> {
 
 impl<T: Reopen + Drop> Kept<T> {
     /// Reopens the store after a crash, over a disk that can be made to crash. The objects are those that one of the
-    /// crash's outcomes spells. If nothing was noted, they are exactly the objects from before.
+    /// crash's outcomes spells. If nothing was noted, they are exactly the objects from before. Its session map is that of the same
+    /// outcome.
     pub fn revive(self, alloc: Global) -> Result<Kept<T>, ReadFault>
         ensures found { IfOk result (λ k. IsClean (T.Store.view k.tables) → RecoversObjects (T.Store.recovers self.tables) k.objects) }
         ensures back { IfOk result (λ k. IsClean (T.Store.view k.tables) → self.noted ≡ none_noted → k.objects ≡ self.objects) }
         ensures kept { IfOk result (λ k. k.noted ≡ none_noted) }
+        ensures outcome { IfOk result (λ k. IsClean (T.Store.view k.tables)
+            → FindsOutcome (T.Store.recovers self.tables) (T.Store.recovers k.tables) k.objects) }
     {
         self.is_mirrored();
         let mut tables = self.into_tables();

@@ -1,5 +1,5 @@
 //! A store of objects that outlives the process. It has the objects in memory, which serve all reads; the names and
-//! keys that changed; and tables that mirror the objects.
+//! keys that changed; and tables that mirror the objects and have the session map beside them.
 #![tactic(auto)]
 
 mod kept;

@@ -1,5 +1,5 @@
 -- What a look, a removal and an insertion do to the rows of a table of keys and values.
-use Rattle.std.proofs.Common.{◌≡◌, ◌⊎◌, ◌↔◌, ℕ, Bool, true, false, not, List, [], ◌∷◌, ◌++◌, length, filter, Option, Some, None, refl, sym, ap, subst, ◌∙◌, inl, inr, true≢false, arith}
+use Rattle.std.proofs.Common.{◌≡◌, ◌⊎◌, ◌↔◌, ℕ, suc, Bool, true, false, not, List, [], ◌∷◌, ◌++◌, length, filter, Option, Some, None, refl, sym, ap, subst, ◌∙◌, inl, inr, true≢false, arith}
 use Rattle.std.specs.List.{AllByRecursion}
 use Rattle.std.specs.declared.cmp.Ordering.{Ordering}
 use Rattle.std.specs.declared.cmp.Ordering.TheVariants.{Less, Equal, Greater}
@@ -10,39 +10,59 @@ use Rattle.sqlite_value.specs.declared.value.Value.{Value}
 use Rattle.sqlite_value.specs.declared.value.Value.TheVariants.{Null, Int, Real, Text, Blob}
 use Rattle.sqlite_value.specs.Order.{Row, column, value_cmp}
 use Rattle.sqlite_value.specs.Keys.{plain, first_key, later, by_key, entry_cmp, prefix_cmp}
-use Rattle.sqlite_value.proofs.OrderLemmas.{value_cmp_total, value_cmp-Text, value_cmp-Blob}
+use Rattle.sqlite_value.proofs.OrderLemmas.{value_cmp_total, value_cmp-Text, value_cmp-Blob, value_cmp-apart}
 use Rattle.sqlite_value.proofs.KeyLemmas.{first_key-plain, then_tied, entry_cmp_total}
 use Rattle.sqlite_trees.specs.Tree.{IsIndex, from_key, insert_entry, remove_entry}
 use Rattle.sqlite_trees.proofs.TreeLemmas.{AtMost, IsSortedTree, prefix_cmp_follows, sorted_index}
-use Rattle.object_tables.specs.Entries.{IsIn, IsTextValue, AreTexts, entry, IsEntryRow, IsKeyedTable, HasNoOther, Says, SetsEntry, FindsEntry}
+use Rattle.object_tables.specs.Entries.{IsIn, IsKeyColumn, IsKey, texts_of, entry, IsEntryRow, IsKeyedTable, HasNoOther, Says, SetsEntry, FindsEntry}
 
 abbrev None_bytes : Option (List ℕ)
 None_bytes = None
 
--- ---- texts
+-- ---- columns
 
 pub by_plain : (v w : Value) → by_key (first_key plain) v w ≡ value_cmp v w
 by_plain v w = rw first_key-plain
 
-same_text : (v w : Value) → IsTextValue v → IsTextValue w → value_cmp v w ≡ Equal → v ≡ w
-same_text (Text s) (Text t) a b e = ap Text (exact_bytes s t (sym (value_cmp-Text s t) ∙ e))
-same_text (Text s) Null a b e = absurd b
-same_text (Text s) (Int n) a b e = absurd b
-same_text (Text s) (Real x) a b e = absurd b
-same_text (Text s) (Blob t) a b e = absurd b
-same_text Null w a b e = absurd a
-same_text (Int n) w a b e = absurd a
-same_text (Real x) w a b e = absurd a
-same_text (Blob s) w a b e = absurd a
+less_equal : Less ≡ Equal → ⊥
+less_equal e = cc
 
--- a row that begins as a key of texts does, and with as many texts, begins with that key
-pub begins_same : (k key tail : Row) → AreTexts k → AreTexts key → length k ≡ length key → prefix_cmp plain (k ++ tail) key ≡ Equal → k ≡ key
+greater_equal : Greater ≡ Equal → ⊥
+greater_equal e = cc
+
+-- columns of keys that tie are one: a text and a blob never do
+same_column : (v w : Value) → IsKeyColumn v → IsKeyColumn w → value_cmp v w ≡ Equal → v ≡ w
+same_column (Text s) (Text t) a b e = ap Text (exact_bytes s t (sym (value_cmp-Text s t) ∙ e))
+same_column (Text s) (Blob t) a b e = absurd (less_equal (sym (value_cmp-apart (Text s) (Blob t) (λ is. omega (arith, is))) ∙ e))
+same_column (Text s) Null a b e = absurd b
+same_column (Text s) (Int n) a b e = absurd b
+same_column (Text s) (Real x) a b e = absurd b
+same_column (Blob s) (Blob t) a b e = ap Blob (exact_bytes s t (sym (value_cmp-Blob s t) ∙ e))
+same_column (Blob s) (Text t) a b e = absurd (greater_equal (sym (value_cmp-apart (Blob s) (Text t) (λ is. omega (arith, is))) ∙ e))
+same_column (Blob s) Null a b e = absurd b
+same_column (Blob s) (Int n) a b e = absurd b
+same_column (Blob s) (Real x) a b e = absurd b
+same_column Null w a b e = absurd a
+same_column (Int n) w a b e = absurd a
+same_column (Real x) w a b e = absurd a
+
+-- keys with the same columns have as many
+as_wide : (k l : Row) → texts_of k ≡ texts_of l → length k ≡ length l
+as_wide [] [] e = refl
+as_wide [] (w ∷ l) e = absurd cc
+as_wide (v ∷ k) [] e = absurd cc
+as_wide (v ∷ k) (w ∷ l) e =
+    let rest : texts_of k ≡ texts_of l = cc in
+    ap suc (as_wide k l rest)
+
+-- a row that begins as a key does, with as many columns, begins with that key
+pub begins_same : (k key tail : Row) → IsKey k → IsKey key → length k ≡ length key → prefix_cmp plain (k ++ tail) key ≡ Equal → k ≡ key
 begins_same [] [] tail a b n e = refl
 begins_same [] (w ∷ key) tail a b n e = absurd (omega arith)
 begins_same (v ∷ k) [] tail a b n e = absurd (omega arith)
 begins_same (v ∷ k) (w ∷ key) tail a b n e =
     let both = then_tied _ _ e in
-    let first : v ≡ w = same_text v w a.0 b.0 (sym (by_plain v w) ∙ both.0) in
+    let first : v ≡ w = same_column v w a.0 b.0 (sym (by_plain v w) ∙ both.0) in
     let rest : k ≡ key = begins_same k key tail a.1 b.1 (omega arith) both.1 in
     cc
 
@@ -67,7 +87,7 @@ entry_parts (v ∷ k) (w ∷ l) a b e =
     (cc, both.1)
 
 -- two rows of keys and values that tie are one
-tied_rest : (k l : Row) (a b : List ℕ) → AreTexts k → AreTexts l → length k ≡ length l → entry_cmp plain (entry k a) (entry l b) ≡ Equal → entry k a ≡ entry l b
+tied_rest : (k l : Row) (a b : List ℕ) → IsKey k → IsKey l → length k ≡ length l → entry_cmp plain (entry k a) (entry l b) ≡ Equal → entry k a ≡ entry l b
 tied_rest [] [] a b p q n e =
     let both = then_tied _ _ e in
     let same : a ≡ b = exact_bytes a b (sym (value_cmp-Blob a b) ∙ (sym (by_plain (Blob a) (Blob b)) ∙ both.0)) in
@@ -76,14 +96,14 @@ tied_rest [] (w ∷ l) a b p q n e = absurd (omega arith)
 tied_rest (v ∷ k) [] a b p q n e = absurd (omega arith)
 tied_rest (v ∷ k) (w ∷ l) a b p q n e =
     let both = then_tied _ _ e in
-    let first : v ≡ w = same_text v w p.0 q.0 (sym (by_plain v w) ∙ both.0) in
+    let first : v ≡ w = same_column v w p.0 q.0 (sym (by_plain v w) ∙ both.0) in
     let rest : entry k a ≡ entry l b = tied_rest k l a b p.1 q.1 (omega arith) both.1 in
     cc
 
-pub tied_entries : (width : ℕ) (r s : Row) → IsEntryRow width r → IsEntryRow width s → entry_cmp plain r s ≡ Equal → r ≡ s
-tied_entries width r s p q e =
-    let n : length p.key ≡ length q.key = p.wide ∙ sym q.wide in
-    p.is ∙ (tied_rest p.key q.key p.value q.value p.texts q.texts n (subst (λ x. entry_cmp plain x (entry q.key q.value) ≡ Equal) p.is (subst (λ y. entry_cmp plain r y ≡ Equal) q.is e)) ∙ sym q.is)
+pub tied_entries : (texts : List Bool) (r s : Row) → IsEntryRow texts r → IsEntryRow texts s → entry_cmp plain r s ≡ Equal → r ≡ s
+tied_entries texts r s p q e =
+    let n = as_wide p.key q.key (p.columns ∙ sym q.columns) in
+    p.is ∙ (tied_rest p.key q.key p.value q.value p.is_key q.is_key n (subst (λ x. entry_cmp plain x (entry q.key q.value) ≡ Equal) p.is (subst (λ y. entry_cmp plain r y ≡ Equal) q.is e)) ∙ sym q.is)
 
 pub column_value : (key : Row) (value : List ℕ) → column (entry key value) (length key) ≡ Blob value
 column_value [] value = refl
@@ -175,18 +195,18 @@ none_of_key key (y ∷ rows) up first r h e = go (λ f there. none_of_key key ro
 -- ---- what a call leaves of a table
 
 -- a key's row, where a table has a row that begins with the key
-pub row_of_key : (rows : List Row) (key row : Row) → IsKeyedTable (length key) rows → AreTexts key → IsIn row rows → prefix_cmp plain row key ≡ Equal
+pub row_of_key : (rows : List Row) (key row : Row) → IsKeyedTable (texts_of key) rows → IsKey key → IsIn row rows → prefix_cmp plain row key ≡ Equal
     → (v : List ℕ) × (row ≡ entry key v)
-row_of_key rows key row table texts there begins =
+row_of_key rows key row table is_key there begins =
     let it = table.entries row there in
-    let same : it.key ≡ key = begins_same it.key key (Blob it.value ∷ []) it.texts texts it.wide (subst (λ x. prefix_cmp plain x key ≡ Equal) it.is begins) in
+    let same : it.key ≡ key = begins_same it.key key (Blob it.value ∷ []) it.is_key is_key (as_wide it.key key it.columns) (subst (λ x. prefix_cmp plain x key ≡ Equal) it.is begins) in
     (it.value, it.is ∙ ap (λ k. entry k it.value) same)
 
 -- the key has the value already
-pub set_already : (rows : List Row) (key row : Row) (value : List ℕ) → IsKeyedTable (length key) rows → AreTexts key → IsIn row rows
+pub set_already : (rows : List Row) (key row : Row) (value : List ℕ) → IsKeyedTable (texts_of key) rows → IsKey key → IsIn row rows
     → prefix_cmp plain row key ≡ Equal → column row (length key) ≡ Blob value → SetsEntry rows rows key (Some value)
-set_already rows key row value table texts there begins at =
-    let found = row_of_key rows key row table texts there begins in
+set_already rows key row value table is_key there begins at =
+    let found = row_of_key rows key row table is_key there begins in
     let same : found.0 ≡ value = let e : Blob found.0 ≡ Blob value = sym (column_value key found.0) ∙ (ap (λ r. column r (length key)) (sym found.1) ∙ at) in cc in
     let here : IsIn (entry key value) rows = subst (λ r. IsIn r rows) (found.1 ∙ ap (entry key) same) there in
     record {
@@ -196,7 +216,7 @@ set_already rows key row value table texts there begins at =
     }
 
 -- no row is of the key
-pub set_absent : (rows : List Row) (key : Row) → IsKeyedTable (length key) rows → ((r : Row) → IsIn r rows → prefix_cmp plain r key ≡ Equal → ⊥)
+pub set_absent : (rows : List Row) (key : Row) → IsKeyedTable (texts_of key) rows → ((r : Row) → IsIn r rows → prefix_cmp plain r key ≡ Equal → ⊥)
     → SetsEntry rows rows key None
 set_absent rows key table none = record {
   table = table;
@@ -205,10 +225,10 @@ set_absent rows key table none = record {
 }
 
 -- the one row of a key is removed
-pub set_removed : (rows : List Row) (key row : Row) → IsKeyedTable (length key) rows → AreTexts key → IsIn row rows → prefix_cmp plain row key ≡ Equal
+pub set_removed : (rows : List Row) (key row : Row) → IsKeyedTable (texts_of key) rows → IsKey key → IsIn row rows → prefix_cmp plain row key ≡ Equal
     → SetsEntry rows (remove_entry plain row rows) key None
-set_removed rows key row table texts there begins =
-    let found = row_of_key rows key row table texts there begins in
+set_removed rows key row table is_key there begins =
+    let found = row_of_key rows key row table is_key there begins in
     let kept = λ (x : Row). in_filter (λ e. not (is_eq (entry_cmp plain e row))) x rows in
     let gone : (v : List ℕ) → IsIn (entry key v) (remove_entry plain row rows) → ⊥ = λ v h.
     let was = (kept (entry key v)).0 h in
@@ -227,8 +247,8 @@ set_removed rows key row table texts there begins =
       );
     }
   where
-    stays : (x y : Row) (rows : List Row) → IsEntryRow (length key) x → IsEntryRow (length key) y → (x ≡ y → ⊥) → not (is_eq (entry_cmp plain x y)) ≡ true
-    stays x y rows a b apart = tell (entry_cmp plain x y) (λ e. apart (tied_entries (length key) x y a b e))
+    stays : (x y : Row) (rows : List Row) → IsEntryRow (texts_of key) x → IsEntryRow (texts_of key) y → (x ≡ y → ⊥) → not (is_eq (entry_cmp plain x y)) ≡ true
+    stays x y rows a b apart = tell (entry_cmp plain x y) (λ e. apart (tied_entries (texts_of key) x y a b e))
       where
         tell : (o : Ordering) → (o ≡ Equal → ⊥) → not (is_eq o) ≡ true
         tell Less never = refl
@@ -236,16 +256,16 @@ set_removed rows key row table texts there begins =
         tell Greater never = refl
 
 -- the row of a key that had none, or none but this one, is put in
-pub set_added : (rows : List Row) (key : Row) (value : List ℕ) → AreTexts key → IsKeyedTable (length key) rows → HasNoOther rows key value
+pub set_added : (rows : List Row) (key : Row) (value : List ℕ) → IsKey key → IsKeyedTable (texts_of key) rows → HasNoOther rows key value
     → SetsEntry rows (insert_entry plain (entry key value) rows) key (Some value)
-set_added rows key value texts table only =
+set_added rows key value is_key table only =
     let new = entry key value in
-    let is_new : IsEntryRow (length key) new = record { key = key; value = value; texts = texts; wide = refl; is = refl } in
-    let ties : (r : Row) → IsIn r rows → entry_cmp plain r new ≡ Equal → r ≡ new = λ r h e. tied_entries (length key) r new (table.entries r h) is_new e in
+    let is_new : IsEntryRow (texts_of key) new = record { key = key; value = value; is_key = is_key; columns = refl; is = refl } in
+    let ties : (r : Row) → IsIn r rows → entry_cmp plain r new ≡ Equal → r ≡ new = λ r h e. tied_entries (texts_of key) r new (table.entries r h) is_new e in
     let come = λ (x : Row). in_insert new x rows ties in
     record {
       table = record {
-        entries = λ r h. elim ((come r).0 h) [ inl is ↦ subst (IsEntryRow (length key)) is is_new | inr there ↦ table.entries r there ];
+        entries = λ r h. elim ((come r).0 h) [ inl is ↦ subst (IsEntryRow (texts_of key)) is is_new | inr there ↦ table.entries r there ];
         once = λ k a b h l. one k a b ((come (entry k a)).0 h) ((come (entry k b)).0 l);
       };
       here = λ v. (

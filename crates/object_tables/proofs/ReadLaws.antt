@@ -1,5 +1,5 @@
 -- What rows spell that are read one after the other.
-use Rattle.std.proofs.Common.{◌≡◌, ◌⊎◌, ◌↔◌, ℕ, Bool, true, false, cond, List, [], ◌∷◌, ◌++◌, length, Option, Some, None, refl, sym, ap, subst, ◌∙◌, inl, inr}
+use Rattle.std.proofs.Common.{◌≡◌, ◌⊎◌, ◌↔◌, ℕ, Bool, true, false, cond, List, [], ◌∷◌, ◌++◌, Option, Some, None, refl, sym, ap, subst, ◌∙◌, inl, inr}
 use Rattle.std.specs.Ordering.{eq_by_cmp}
 use Rattle.std.specs.Option.{option_and_then, option_map}
 use Rattle.std.specs.Cmp.Lexicographic.{nat_list_cmp_total}
@@ -10,7 +10,7 @@ use Rattle.objstore.specs.Objects.{Objects, header_at}
 use Rattle.sqlite_value.specs.Order.{Row}
 use Rattle.sqlite_value.specs.Keys.{plain}
 use Rattle.sqlite_trees.specs.Tree.{from_key}
-use Rattle.object_tables.specs.Entries.{AreTexts, IsEntryRow, IsIn, IsKeyedTable, Says, entry}
+use Rattle.object_tables.specs.Entries.{IsKey, IsEntryRow, IsIn, IsKeyedTable, Says, entry, one_text, texts_of, two_texts}
 use Rattle.object_tables.specs.Reading.{AddsObject, AddsPair, SpellHeaders, SpellPairs}
 use Rattle.object_tables.specs.Spelled.{SpellsObjects, object_key, pair_key, value_at}
 use Rattle.object_tables.proofs.EntryLaws.{entry_parts}
@@ -29,19 +29,19 @@ in_pushed x row (y ∷ rows) =
       (λ h. elim h [ inl there ↦ elim there [ inl is ↦ inl is | inr rest ↦ inr (both.1 (inl rest)) ] | inr is ↦ inr (both.1 (inr is)) ]),
     )
 
-none_some : {X : Type 0} (o : Option X) (v : X) → o ≡ None → o ≡ Some v → ⊥
+pub none_some : {X : Type 0} (o : Option X) (v : X) → o ≡ None → o ≡ Some v → ⊥
 none_some o v a b = absurd cc
 
 -- a row of a key that has none comes to a table
-pub table_pushed : (width : ℕ) (rows : List Row) (key : Row) (value : List ℕ) → IsKeyedTable width rows → AreTexts key → length key ≡ width
-    → Says rows key None → IsKeyedTable width (rows ++ entry key value ∷ [])
-table_pushed width rows key value table texts wide none = record {
-  entries = λ r h. elim ((in_pushed r (entry key value) rows).0 h) [ inl there ↦ table.entries r there | inr is ↦ subst (IsEntryRow width) is new ];
+pub table_pushed : (texts : List Bool) (rows : List Row) (key : Row) (value : List ℕ) → IsKeyedTable texts rows → IsKey key → texts_of key ≡ texts
+    → Says rows key None → IsKeyedTable texts (rows ++ entry key value ∷ [])
+table_pushed texts rows key value table is_key columns none = record {
+  entries = λ r h. elim ((in_pushed r (entry key value) rows).0 h) [ inl there ↦ table.entries r there | inr is ↦ subst (IsEntryRow texts) is new ];
   once = λ k a b h l. one k a b ((in_pushed (entry k a) (entry key value) rows).0 h) ((in_pushed (entry k b) (entry key value) rows).0 l);
 }
   where
-    new : IsEntryRow width (entry key value)
-    new = record { key = key; value = value; texts = texts; wide = wide; is = refl }
+    new : IsEntryRow texts (entry key value)
+    new = record { key = key; value = value; is_key = is_key; columns = columns; is = refl }
 
     never : (v : List ℕ) → IsIn (entry key v) rows → ⊥
     never v h = none_some None v refl ((none v).0 h)
@@ -91,7 +91,7 @@ header_added rows old new row s a =
     let key = object_key a.name in
     let gone : header_at old a.name ≡ None = ap (option_map (λ (o : Omap). o.header)) a.absent in
     rw a.is (record {
-      table = table_pushed 1 rows key a.header s.table (tt, tt) refl (subst (Says rows key) gone (s.headers a.name));
+      table = table_pushed one_text rows key a.header s.table (tt, tt) refl (subst (Says rows key) gone (s.headers a.name));
       headers = λ n. says_pushed rows key a.header (object_key n) (header_at old n) (header_at new n) (s.headers n) (at n (eq_by_cmp key_cmp n a.name) refl);
       bare = λ n k. none n k (eq_by_cmp key_cmp n a.name) refl;
     })
@@ -125,7 +125,7 @@ pair_added heads rows old new row s a =
     rw a.is (record {
       heads_are = s.heads_are;
       headers = λ n. subst (Says heads (object_key n)) (sym (header_same n (eq_by_cmp key_cmp n a.name) refl)) (s.headers n);
-      table = table_pushed 2 rows key a.value s.table (tt, (tt, tt)) refl (subst (Says rows key) gone (s.values a.name a.key));
+      table = table_pushed two_texts rows key a.value s.table (tt, (tt, tt)) refl (subst (Says rows key) gone (s.values a.name a.key));
       values = λ n k. says_pushed rows key a.value (pair_key n k) (value_at old n k) (value_at new n k) (s.values n k) (at n k (eq_by_cmp key_cmp n a.name) (eq_by_cmp key_cmp k a.key) refl refl);
     })
   where
@@ -153,8 +153,8 @@ pair_added heads rows old new row s a =
 
 pub all_read : (heads rows : List Row) (objects : Objects) (trees : ℕ → List Row) → heads ≡ trees 0 → rows ≡ trees 1 → SpellPairs heads rows objects → SpellsObjects trees objects
 all_read heads rows objects trees a b s = record {
-  objects_are = subst (IsKeyedTable 1) a s.heads_are;
-  pairs_are = subst (IsKeyedTable 2) b s.table;
+  objects_are = subst (IsKeyedTable one_text) a s.heads_are;
+  pairs_are = subst (IsKeyedTable two_texts) b s.table;
   headers = λ n out. subst (λ r. Says r (object_key n) (header_at objects n)) a (s.headers n);
   values = λ n k out. subst (λ r. Says r (pair_key n k) (value_at objects n k)) b (s.values n k);
 }

@@ -14,7 +14,7 @@ use Rattle.objstore.specs.Objects.{Objects, header_at}
 use Rattle.sqlite_value.specs.Order.{Row}
 use Rattle.sqlite_trees.specs.Tree.{Trees}
 use Rattle.sqlite_trees.specs.View.{View}
-use Rattle.object_tables.specs.Entries.{HasRow, IsIn, IsKeyedTable, PutsRow, Says, SetsEntry, entry}
+use Rattle.object_tables.specs.Entries.{HasRow, IsIn, IsKeyedTable, PutsRow, Says, SetsEntry, entry, one_text, two_texts}
 use Rattle.object_tables.specs.Noted.{Noted, Spot, has_key, has_name, is_key_of, is_name_of, spot_cmp}
 use Rattle.object_tables.specs.Spelled.{AreRight, HaveOneSpelling, HaveOwners, SpellsObjects, SpellsBut, StayListed, object_key, pair_key, value_at}
 
@@ -66,7 +66,7 @@ spells_listed trees objects noted s =
     spells_less trees objects (has_name noted) _ (has_key noted) _ (λ n out. noted_names noted n ∙ out) (λ n k out. noted_keys noted n k ∙ out) s
 
 -- what a key says where another one was put
-said_still : (old new : List Row) (key other : Row) (value said : Option (List ℕ)) → SetsEntry old new key value → (other ≡ key → ⊥)
+pub said_still : (old new : List Row) (key other : Row) (value said : Option (List ℕ)) → SetsEntry old new key value → (other ≡ key → ⊥)
     → Says old other said → Says new other said
 said_still old new key other value said set apart says = λ v. (
   (λ h. (says v).0 ((set.others other v apart).0 h)),
@@ -81,7 +81,7 @@ header_put old new objects name rest keys put s =
     let kept : new.trees 1 ≡ old.trees 1 = put.others 1 (λ e. absurd cc) in
     record {
       objects_are = put.sets.table;
-      pairs_are = subst (IsKeyedTable 2) (sym kept) s.pairs_are;
+      pairs_are = subst (IsKeyedTable two_texts) (sym kept) s.pairs_are;
       headers = λ n out. at n out (eq_by_cmp key_cmp n name) refl;
       values = λ n k out. subst (λ rows. Says rows (pair_key n k) (value_at objects n k)) (sym kept) (s.values n k out);
     }
@@ -99,7 +99,7 @@ pub value_put : (old new : View) (objects : Objects) (name key : List ℕ) (rest
 value_put old new objects name key rest names put s =
     let kept : new.trees 0 ≡ old.trees 0 = put.others 0 (λ e. absurd cc) in
     record {
-      objects_are = subst (IsKeyedTable 1) (sym kept) s.objects_are;
+      objects_are = subst (IsKeyedTable one_text) (sym kept) s.objects_are;
       pairs_are = put.sets.table;
       headers = λ n out. subst (λ rows. Says rows (object_key n) (header_at objects n)) (sym kept) (s.headers n out);
       values = λ n k out. at n k out (eq_by_cmp spot_cmp (n, k) (name, key)) refl;
@@ -202,7 +202,7 @@ same_option (Some v) y p q = sym (p v refl)
 same_option None (Some w) p q = q w refl
 same_option None None p q = refl
 
-said_same : (rows : List Row) (key : Row) (x y : Option (List ℕ)) → Says rows key x → Says rows key y → x ≡ y
+pub said_same : (rows : List Row) (key : Row) (x y : Option (List ℕ)) → Says rows key x → Says rows key y → x ≡ y
 said_same rows key x y p q = same_option x y (λ v e. (q v).0 ((p v).1 e)) (λ v e. (p v).0 ((q v).1 e))
 
 same_omap : (a b : Option Omap) → option_map (λ (o : Omap). o.header) a ≡ option_map (λ (o : Omap). o.header) b

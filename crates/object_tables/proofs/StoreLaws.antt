@@ -1,5 +1,5 @@
 -- What calls leave of a store: a look, and a key that is given a value.
-use Rattle.std.proofs.Common.{◌≡◌, ℕ, Bool, true, false, ◌==◌, cond, Err, Ok, OnErr, OnOk, Result, List, [], ◌∷◌, ◌++◌, append_assoc, length, Option, Some, None, refl, sym, ap, subst, ◌∙◌, eq-eqb, eqb-true, true≢false}
+use Rattle.std.proofs.Common.{◌≡◌, ℕ, Bool, true, false, ◌==◌, cond, Err, Ok, OnErr, OnOk, Result, List, [], ◌∷◌, ◌++◌, append_assoc, length, Option, Some, None, refl, sym, ap, subst, ◌∙◌, eq-eqb, eqb-true, true≢false, IsTrue}
 use Rattle.std.proofs.lemmas.List.{append-nil}
 use Rattle.std.specs.Ordering.{is_eq}
 use Rattle.sqlite_value.specs.declared.value.Value.TheVariants.{Blob}
@@ -8,8 +8,8 @@ use Rattle.sqlite_value.specs.Keys.{plain, prefix_cmp}
 use Rattle.sqlite_trees.specs.declared.store.Shape.TheVariants.{Index}
 use Rattle.sqlite_trees.specs.declared.store.Direction.TheVariants.{Forward}
 use Rattle.sqlite_trees.specs.Tree.{IsIndex, Trees, from_key, insert_entry, order_of, remove_entry, sought}
-use Rattle.sqlite_trees.specs.View.{Advances, Commits, IsOrdered, IsRolledBack, IsShaped, KeepsSchema, OnlyWrites, SetsTree, View, with_cursor}
-use Rattle.object_tables.specs.Entries.{AreTexts, HasNoOther, HoldsValue, IsKeyedTable, Looks, Misses, PutsRow, SetsEntry, entry}
+use Rattle.sqlite_trees.specs.View.{Advances, Commits, IsOrdered, IsClean, IsRolledBack, IsShaped, KeepsSchema, OnlyWrites, SetsTree, View, with_cursor}
+use Rattle.object_tables.specs.Entries.{IsKey, HasNoOther, HoldsValue, IsKeyedTable, LeavesOthers, Looks, Misses, PutsRow, SetsEntry, entry, texts_of}
 use Rattle.object_tables.specs.Reading.{Reads}
 use Rattle.object_tables.proofs.ReadLaws.{from_no_key}
 use Rattle.object_tables.proofs.EntryLaws.{begins_itself, looked, looked_past, none_other, set_absent, set_added, set_already, set_removed, set_then}
@@ -74,6 +74,10 @@ pub edited_not : (old new : View) (tree t : ℕ) (edit : List Row → List Row) 
 edited_not old new tree t edit set away =
     ap (λ (v : View). v.trees t) set.is ∙ ap (λ b. cond b (edit (old.trees tree)) (old.trees t)) (apart_false t tree away)
 
+-- trees other than one, over two calls
+pub others_then : (a b c : View) (tree : ℕ) → LeavesOthers a b tree → LeavesOthers b c tree → LeavesOthers a c tree
+others_then a b c tree p q t away = q t away ∙ p t away
+
 pub writes_on : (a b c : View) → OnlyWrites a b → OnlyWrites b c → OnlyWrites a c
 writes_on a b c p q = q ∙ ap (λ (v : View). record v { trees = c.trees; cursors = c.cursors }) p
 
@@ -83,7 +87,7 @@ looks_only old new tree key row found look =
 
 -- ---- a key that is given a value
 
-pub put_already : (old new : View) (tree : ℕ) (key row : Row) (value : Option (List ℕ)) → IsKeyedTable (length key) (old.trees tree) → AreTexts key
+pub put_already : (old new : View) (tree : ℕ) (key row : Row) (value : Option (List ℕ)) → IsKeyedTable (texts_of key) (old.trees tree) → IsKey key
     → Looks old new tree key row true → HoldsValue row (length key) value → PutsRow old new tree key value
 put_already old new tree key row None table texts look holds = absurd holds
 put_already old new tree key row (Some value) table texts look holds =
@@ -96,7 +100,7 @@ put_already old new tree key row (Some value) table texts look holds =
       only = looks_only old new tree key row true look;
     }
 
-pub put_absent : (old new : View) (tree : ℕ) (key row : Row) → IsKeyedTable (length key) (old.trees tree) → Looks old new tree key row false
+pub put_absent : (old new : View) (tree : ℕ) (key row : Row) → IsKeyedTable (texts_of key) (old.trees tree) → Looks old new tree key row false
     → PutsRow old new tree key None
 put_absent old new tree key row table look =
     let same : new.trees ≡ old.trees = ap (λ (v : View). v.trees) look.is in
@@ -108,7 +112,7 @@ put_absent old new tree key row table look =
       only = looks_only old new tree key row false look;
     }
 
-pub put_removed : (old mid new : View) (tree : ℕ) (key row : Row) → IsKeyedTable (length key) (old.trees tree) → AreTexts key
+pub put_removed : (old mid new : View) (tree : ℕ) (key row : Row) → IsKeyedTable (texts_of key) (old.trees tree) → IsKey key
     → Looks old mid tree key row true → mid.shape tree ≡ Index plain → SetsTree mid new tree (remove_entry (order_of (mid.shape tree)) row)
     → OnlyWrites mid new → PutsRow old new tree key None
 put_removed old mid new tree key row table texts look shape set only =
@@ -123,8 +127,8 @@ put_removed old mid new tree key row table texts look shape set only =
       only = writes_on old mid new (looks_only old mid tree key row true look) only;
     }
 
-pub put_added : (old new : View) (tree : ℕ) (key row : Row) (value : List ℕ) → AreTexts key → old.shape tree ≡ Index plain → row ≡ entry key value
-    → SetsTree old new tree (insert_entry (order_of (old.shape tree)) row) → OnlyWrites old new → IsKeyedTable (length key) (old.trees tree)
+pub put_added : (old new : View) (tree : ℕ) (key row : Row) (value : List ℕ) → IsKey key → old.shape tree ≡ Index plain → row ≡ entry key value
+    → SetsTree old new tree (insert_entry (order_of (old.shape tree)) row) → OnlyWrites old new → IsKeyedTable (texts_of key) (old.trees tree)
     → HasNoOther (old.trees tree) key value → PutsRow old new tree key (Some value)
 put_added old new tree key row value texts shape is set only table alone =
     let there : new.trees tree ≡ insert_entry plain (entry key value) (old.trees tree) =
@@ -138,7 +142,7 @@ put_added old new tree key row value texts shape is set only table alone =
 
 -- a key is given none, and then a value
 pub put_then : (old mid new : View) (tree : ℕ) (key : Row) (value : List ℕ) → PutsRow old mid tree key None
-    → (IsKeyedTable (length key) (mid.trees tree) → HasNoOther (mid.trees tree) key value → PutsRow mid new tree key (Some value)) → PutsRow old new tree key (Some value)
+    → (IsKeyedTable (texts_of key) (mid.trees tree) → HasNoOther (mid.trees tree) key value → PutsRow mid new tree key (Some value)) → PutsRow old new tree key (Some value)
 put_then old mid new tree key value p more =
     let q = more p.sets.table (none_other (mid.trees tree) key value p.sets.here) in
     record {
@@ -206,3 +210,15 @@ pub undone_shapes : (old mid new : View) → KeepsSchema old mid → IsRolledBac
     → (new.shape ≡ old.shape) × (new.committed_shape ≡ old.shape)
 undone_shapes old mid new kept undone same =
     (undone.shape (kept.shape ∙ (same ∙ sym kept.committed_shape)) ∙ kept.shape, undone.committed_shape ∙ (kept.committed_shape ∙ sym same))
+
+pub sound_before : (old mid : View) → OnlyWrites old mid → mid.is_broken ≡ false → old.is_broken ≡ false
+sound_before old mid only sound = sym (ap (λ (v : View). v.is_broken) only) ∙ sound
+
+-- a commit that failed, and left the store open
+pub undone_commit : (old mid new : View) → OnlyWrites old mid → IsRolledBack mid new → IsClean new → IsTrue new.is_open
+    → IsTrue old.is_open × (new.committed ≡ old.committed)
+undone_commit old mid new only undone clean is_open =
+    let kept = undone.kept clean in (
+      sym (ap (λ (v : View). v.is_open) only) ∙ kept.was_open is_open,
+      kept.committed is_open ∙ ap (λ (v : View). v.committed) only,
+    )

@@ -1,5 +1,5 @@
--- The rows of a table whose rows are each a key, so many texts, and one value.
-use Rattle.std.specs.Prelude.{◌≡◌, ◌⊎◌, ◌↔◌, ℕ, Bool, true, false, List, [], ◌∷◌, ◌++◌, length, Option, None, Some}
+-- The rows of a table whose rows are each a key, of texts and blobs, and one value.
+use Rattle.std.specs.Prelude.{◌≡◌, ◌⊎◌, ◌↔◌, ℕ, Bool, true, false, List, [], ◌∷◌, ◌++◌, Option, None, Some}
 use Rattle.std.specs.declared.cmp.Ordering.TheVariants.{Equal}
 use Rattle.sqlite_value.specs.declared.value.Value.{Value}
 use Rattle.sqlite_value.specs.declared.value.Value.TheVariants.{Null, Int, Real, Text, Blob}
@@ -12,33 +12,56 @@ abbrev pub IsIn : {X : Type 0} → X → List X → Type 0
 IsIn x [] = ⊥
 IsIn x (y ∷ ys) = (y ≡ x) ⊎ IsIn x ys
 
-abbrev pub IsTextValue : Value → Type 0
-IsTextValue Null = ⊥
-IsTextValue (Int n) = ⊥
-IsTextValue (Real x) = ⊥
-IsTextValue (Text t) = Unit {0}
-IsTextValue (Blob b) = ⊥
+-- a column of a key is a text or a blob
+abbrev pub IsKeyColumn : Value → Type 0
+IsKeyColumn Null = ⊥
+IsKeyColumn (Int n) = ⊥
+IsKeyColumn (Real x) = ⊥
+IsKeyColumn (Text t) = Unit {0}
+IsKeyColumn (Blob b) = Unit {0}
 
-abbrev pub AreTexts : Row → Type 0
-AreTexts [] = Unit {0}
-AreTexts (v ∷ vs) = IsTextValue v × AreTexts vs
+abbrev pub IsKey : Row → Type 0
+IsKey [] = Unit {0}
+IsKey (v ∷ vs) = IsKeyColumn v × IsKey vs
+
+-- which columns of a key are texts: each other one is a blob
+abbrev pub is_text : Value → Bool
+is_text Null = false
+is_text (Int n) = false
+is_text (Real x) = false
+is_text (Text t) = true
+is_text (Blob b) = false
+
+abbrev pub texts_of : Row → List Bool
+texts_of [] = []
+texts_of (v ∷ vs) = is_text v ∷ texts_of vs
 
 -- the row of a key and its value
 abbrev pub entry : Row → List ℕ → Row
 entry key value = key ++ Blob value ∷ []
 
--- the row is a key of so many texts and a value
-pub record IsEntryRow (width : ℕ) (row : Row) : Type 0 where
+-- the row is a key of such columns and a value
+pub record IsEntryRow (texts : List Bool) (row : Row) : Type 0 where
   pub key : Row
   pub value : List ℕ
-  pub texts : AreTexts key
-  pub wide : length key ≡ width
+  pub is_key : IsKey key
+  pub columns : texts_of key ≡ texts
   pub is : row ≡ entry key value
 
 -- each row is such, and no key has two values
-pub record IsKeyedTable (width : ℕ) (rows : List Row) : Type 0 where
-  pub entries : (row : Row) → IsIn row rows → IsEntryRow width row
+pub record IsKeyedTable (texts : List Bool) (rows : List Row) : Type 0 where
+  pub entries : (row : Row) → IsIn row rows → IsEntryRow texts row
   pub once : (key : Row) (a b : List ℕ) → IsIn (entry key a) rows → IsIn (entry key b) rows → a ≡ b
+
+-- a table's key may be one text, two of them, or one blob
+abbrev pub one_text : List Bool
+one_text = true ∷ []
+
+abbrev pub two_texts : List Bool
+two_texts = true ∷ true ∷ []
+
+abbrev pub one_blob : List Bool
+one_blob = false ∷ []
 
 -- a key has a row; and it has none but that of this value
 abbrev pub HasRow : List Row → Row → Type 0
@@ -53,15 +76,19 @@ Says rows key value = (v : List ℕ) → IsIn (entry key v) rows ↔ (value ≡ 
 
 -- the key has this value now, or none, and each other what it had
 pub record SetsEntry (old new : List Row) (key : Row) (value : Option (List ℕ)) : Type 0 where
-  pub table : IsKeyedTable (length key) new
+  pub table : IsKeyedTable (texts_of key) new
   pub here : Says new key value
   pub others : (k : Row) (v : List ℕ) → (k ≡ key → ⊥) → IsIn (entry k v) new ↔ IsIn (entry k v) old
+
+-- each tree but one is as it was
+abbrev pub LeavesOthers : View → View → ℕ → Type 0
+LeavesOthers old new tree = (t : ℕ) → (t ≡ tree → ⊥) → new.trees t ≡ old.trees t
 
 -- so it is with one tree of a store; each other is as it was, and nothing else changed but cursors
 pub record PutsRow (old new : View) (tree : ℕ) (key : Row) (value : Option (List ℕ)) : Type 0 where
   pub sound : old.is_broken ≡ false
   pub sets : SetsEntry (old.trees tree) (new.trees tree) key value
-  pub others : (t : ℕ) → (t ≡ tree → ⊥) → new.trees t ≡ old.trees t
+  pub others : LeavesOthers old new tree
   pub only : OnlyWrites old new
 
 -- whether a key had a row: where it had none, this is told

@@ -1,4 +1,5 @@
 pub mod Entries
 pub mod Noted
 pub mod Reading
+pub mod Sessions
 pub mod Spelled

@@ -10,7 +10,7 @@ use Rattle.objstore.specs.Writes.{nothing}
 use Rattle.sqlite_value.specs.Order.{Row}
 use Rattle.sqlite_trees.specs.View.{View}
 use Rattle.object_tables.specs.declared.batches.Batch.{Batch}
-use Rattle.object_tables.specs.Entries.{IsKeyedTable, Says, entry}
+use Rattle.object_tables.specs.Entries.{IsKeyedTable, Says, entry, one_text, two_texts}
 use Rattle.object_tables.specs.Spelled.{object_key, pair_key, value_at}
 
 -- an object with a header and no pairs is added, which the row spells
@@ -76,15 +76,15 @@ pub record IsReady (objects : Objects) (name : List ℕ) (op : WriteOp) (key : L
 
 -- these rows spell the objects' headers, and the objects have no pairs
 pub record SpellHeaders (rows : List Row) (objects : Objects) : Type 0 where
-  pub table : IsKeyedTable 1 rows
+  pub table : IsKeyedTable one_text rows
   pub headers : (name : List ℕ) → Says rows (object_key name) (header_at objects name)
   pub bare : (name key : List ℕ) → value_at objects name key ≡ None
 
 -- these rows spell the objects' pairs, and those the headers
 pub record SpellPairs (heads rows : List Row) (objects : Objects) : Type 0 where
-  pub heads_are : IsKeyedTable 1 heads
+  pub heads_are : IsKeyedTable one_text heads
   pub headers : (name : List ℕ) → Says heads (object_key name) (header_at objects name)
-  pub table : IsKeyedTable 2 rows
+  pub table : IsKeyedTable two_texts rows
   pub values : (name key : List ℕ) → Says rows (pair_key name key) (value_at objects name key)
 
 -- a cursor has the rest of a table's rows, of which some were seen

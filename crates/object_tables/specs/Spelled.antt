@@ -10,7 +10,7 @@ use Rattle.sqlite_value.specs.Keys.{plain}
 use Rattle.sqlite_trees.specs.declared.store.Shape.TheVariants.{Index}
 use Rattle.sqlite_trees.specs.Tree.{Trees}
 use Rattle.sqlite_trees.specs.View.{View}
-use Rattle.object_tables.specs.Entries.{HasRow, IsIn, IsKeyedTable, Says, entry}
+use Rattle.object_tables.specs.Entries.{HasRow, IsIn, IsKeyedTable, Says, entry, one_text, two_texts}
 
 -- an object's key in its table, and a pair's in its own
 abbrev pub object_key : List ℕ → Row
@@ -27,8 +27,8 @@ value_at objects name key = option_and_then (λ (o : Omap). finmap.get o.pairs k
 -- is said
 pub record SpellsBut (trees : Trees) (objects : Objects) (names : List ℕ → Bool) (keys : List ℕ → List ℕ → Bool)
     : Type 0 where
-  pub objects_are : IsKeyedTable 1 (trees 0)
-  pub pairs_are : IsKeyedTable 2 (trees 1)
+  pub objects_are : IsKeyedTable one_text (trees 0)
+  pub pairs_are : IsKeyedTable two_texts (trees 1)
   pub headers : (name : List ℕ) → names name ≡ false → Says (trees 0) (object_key name) (header_at objects name)
   pub values : (name key : List ℕ) → keys name key ≡ false → Says (trees 1) (pair_key name key) (value_at objects name key)
 
@@ -55,7 +55,8 @@ StayListed old new objects =
 abbrev pub HaveOneSpelling : Type 0
 HaveOneSpelling = (trees : Trees) (a b : Objects) → SpellsObjects trees a → SpellsObjects trees b → a ≡ b
 
--- the store has the two tables
+-- the store has the three tables: the objects, the pairs, and the session map
 pub record HasTables (v : View) : Type 0 where
   pub objects : v.shape 0 ≡ Index plain
   pub pairs : v.shape 1 ≡ Index plain
+  pub sessions : v.shape 2 ≡ Index plain

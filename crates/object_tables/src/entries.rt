@@ -1,10 +1,11 @@
 //! One row of a table.
-ghost use Rattle.std.specs.Prelude.{◌≡◌, ◌↔◌, false, true, None, Some, length, IfOk, OnOk, IsTrue, option_copied};
+ghost use Rattle.std.specs.Prelude.{◌≡◌, ◌↔◌, false, true, None, Some, IfOk, OnOk, IsTrue, option_copied};
 ghost use Rattle.sqlite_value.specs.Order.{column};
 ghost use Rattle.sqlite_value.specs.Keys.{plain};
 ghost use Rattle.sqlite_value.specs.declared.value.Value.TheVariants.{Blob};
 ghost use Rattle.sqlite_trees.specs.View.{IsClean, IsQuiet, KeepsSchema, OnlyWrites};
-ghost use Rattle.object_tables.specs.Entries.{AreTexts, HasNoOther, HoldsValue, IsKeyedTable, Looks, Misses, PutsRow, entry};
+ghost use Rattle.object_tables.specs.Entries.{HasNoOther, HoldsValue, IsKey, IsKeyedTable, LeavesOthers, Looks, Misses};
+ghost use Rattle.object_tables.specs.Entries.{PutsRow, entry, texts_of};
 
 use sqlite_trees::error::StoreError;
 use sqlite_trees::store::{Direction, Shape, Store};
@@ -24,11 +25,14 @@ pub fn put_entry<T: Store>(
     value: Option<&[u8]>,
     row: &mut Row,
 ) -> Result<bool, StoreError>
-    requires texts { AreTexts key.now }
+    requires key { IsKey key.now }
     requires shaped { IsClean (T.Store.view trees.old) → (T.Store.view trees.old).shape tree ≡ Shape.Index plain }
-    ensures ok { OnOk result (IsClean (T.Store.view trees.new) → IsKeyedTable (length key.now) ((T.Store.view trees.old).trees tree)
+    ensures ok { OnOk result (IsClean (T.Store.view trees.new)
+        → IsKeyedTable (texts_of key.now) ((T.Store.view trees.old).trees tree)
         → PutsRow (T.Store.view trees.old) (T.Store.view trees.new) tree key.now (option_copied value.entry)) }
     ensures had { IfOk result (λ had. IsClean (T.Store.view trees.new) → Misses ((T.Store.view trees.old).trees tree) key.now had) }
+    ensures others { OnOk result (IsClean (T.Store.view trees.new)
+        → LeavesOthers (T.Store.view trees.old) (T.Store.view trees.new) tree) }
     ensures frame { OnOk result (IsClean (T.Store.view trees.new) → OnlyWrites (T.Store.view trees.old) (T.Store.view trees.new)) }
     ensures schema { KeepsSchema (T.Store.view trees.old) (T.Store.view trees.new) }
     ensures quiet { IsQuiet T.Store.view T.Store.faults T.Store.recovers T.Store.is_shielded trees.old trees.new }
@@ -57,11 +61,14 @@ pub fn add_entry<T: Store>(
     value: &[u8],
     row: &mut Row,
 ) -> Result<(), StoreError>
-    requires texts { AreTexts key.now }
+    requires key { IsKey key.now }
     requires shaped { IsClean (T.Store.view trees.old) → (T.Store.view trees.old).shape tree ≡ Shape.Index plain }
-    ensures ok { OnOk result (IsClean (T.Store.view trees.new) → IsKeyedTable (length key.now) ((T.Store.view trees.old).trees tree)
+    ensures ok { OnOk result (IsClean (T.Store.view trees.new)
+        → IsKeyedTable (texts_of key.now) ((T.Store.view trees.old).trees tree)
         → HasNoOther ((T.Store.view trees.old).trees tree) key.now value.now
         → PutsRow (T.Store.view trees.old) (T.Store.view trees.new) tree key.now (Some value.now)) }
+    ensures others { OnOk result (IsClean (T.Store.view trees.new)
+        → LeavesOthers (T.Store.view trees.old) (T.Store.view trees.new) tree) }
     ensures frame { OnOk result (IsClean (T.Store.view trees.new) → OnlyWrites (T.Store.view trees.old) (T.Store.view trees.new)) }
     ensures schema { KeepsSchema (T.Store.view trees.old) (T.Store.view trees.new) }
     ensures quiet { IsQuiet T.Store.view T.Store.faults T.Store.recovers T.Store.is_shielded trees.old trees.new }

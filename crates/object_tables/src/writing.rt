@@ -1,16 +1,18 @@
-//! Objects into the tables.
-ghost use Rattle.std.specs.Prelude.{◌≡◌, ◌⊎◌, ◌≤◌, ℕ, Bool, true, false, List, Some, is_some, IsTrue, IfOk, OnOk, option_copied};
+//! Objects, and edits of the session map, into the tables.
+ghost use Rattle.std.specs.Prelude.{◌≡◌, ◌⊎◌, ◌≤◌, ℕ, Bool, true, false, List, Some, is_some, IsTrue, IfOk, OnErr, OnOk, option_copied};
 ghost use Rattle.std.specs.FinMap as map;
 ghost use Rattle.objstore.specs.Objects.{header_at};
 ghost use Rattle.sqlite_trees.specs.Tree.{Trees};
 ghost use Rattle.sqlite_trees.specs.View.{IsClean, IsQuiet, KeepsSchema, OnlyWrites, doubt};
-ghost use Rattle.object_tables.specs.Entries.{HasRow, IsIn, IsKeyedTable, PutsRow, entry};
-ghost use Rattle.object_tables.specs.Noted.{has_key, has_name, is_key_of, is_name_of};
-ghost use Rattle.object_tables.specs.Spelled.{AreRight, HasTables, HaveOwners, SpellsObjects, SpellsBut, object_key, pair_key, value_at};
+ghost use Rattle.object_tables.specs.Entries.{HasRow, IsIn, IsKeyedTable, LeavesOthers, PutsRow, entry, one_text, two_texts};
+ghost use Rattle.object_tables.specs.Noted.{is_key_of, is_name_of};
+ghost use Rattle.object_tables.specs.Sessions.{Brings};
+ghost use Rattle.object_tables.specs.Spelled.{AreRight, HasTables, HaveOwners, SpellsBut, object_key, pair_key, value_at};
 
 use crate::changes::Changes;
 use crate::entries::{add_entry, put_entry};
 use crate::name_sets::NameSet;
+use crate::sessions::{RowEdit, write_rows};
 use crate::tables::{OBJECTS, PAIRS};
 use mds_types::{Bytes, Text};
 use objstore::MemStore;
@@ -21,31 +23,34 @@ use sqlite_value::row::Row;
 use sqlite_value::value::ValueRef;
 use std::alloc::{AllocError, Global};
 
-/// Brings what changed into the tables, in one transaction. Where the tables have spelled all objects but those names
-/// and keys, with a row for each pair's object, the last commit spells exactly the objects then. Whatever it answers, and
-/// wherever it is cut off, a crash leaves what it could leave before, or tables that spell exactly the objects.
+/// Brings what changed into the tables, with edits of the session map, all in one transaction. Where the tables have
+/// spelled all objects but those names and keys, with a row for each pair's object, the last commit spells exactly the
+/// objects then, and has exactly the edited rows. Whatever it answers, and wherever it is cut off, a crash leaves what
+/// it could leave before, or tables that have both. Where it fails, and the tables are still open, a crash leaves what
+/// it could leave before.
 pub fn save<T: Store>(
     trees: &mut T,
     alloc: Global,
     objects: &MemStore,
     changes: &Changes,
+    edits: &[RowEdit],
 ) -> Result<(), StoreError>
     requires { IsClean (T.Store.view trees.old) → HasTables (T.Store.view trees.old) }
     ensures saved { OnOk result (IsClean (T.Store.view trees.new) → ((T.Store.view trees.old).is_broken ≡ false)
-        × (SpellsBut (T.Store.view trees.old).trees objects.now (has_name changes.now) (has_key changes.now)
-        → HaveOwners (T.Store.view trees.old).trees → SpellsObjects (T.Store.view trees.new).committed objects.now)) }
+        × Brings (T.Store.view trees.old).trees (T.Store.view trees.new).committed objects.now changes.now edits.now) }
     ensures open { OnOk result (IsClean (T.Store.view trees.new) → (T.Store.view trees.new).is_open ≡ (T.Store.view trees.old).is_open) }
     ensures crash { IsClean (T.Store.view trees.new) → (db : Trees) → T.Store.recovers trees.new db
         → T.Store.recovers trees.old db ⊎ (((T.Store.view trees.old).is_broken ≡ false)
-        × (SpellsBut (T.Store.view trees.old).trees objects.now (has_name changes.now) (has_key changes.now)
-        → HaveOwners (T.Store.view trees.old).trees → SpellsObjects db objects.now)) }
+        × Brings (T.Store.view trees.old).trees db objects.now changes.now edits.now) }
+    ensures failed { OnErr result (IsClean (T.Store.view trees.new) → IsTrue (T.Store.view trees.new).is_open
+        → (db : Trees) → T.Store.recovers trees.new db → T.Store.recovers trees.old db) }
     ensures clean { doubt (T.Store.view trees.old).is_clean ≤ doubt (T.Store.view trees.new).is_clean }
     ensures fresh { IsClean (T.Store.view trees.new) → IsTrue (T.Store.view trees.new).is_open
         → (T.Store.view trees.new).trees ≡ (T.Store.view trees.new).committed }
     ensures shape { IsClean (T.Store.view trees.new) → (T.Store.view trees.old).shape ≡ (T.Store.view trees.old).committed_shape
         → ((T.Store.view trees.new).shape ≡ (T.Store.view trees.old).shape) × ((T.Store.view trees.new).committed_shape ≡ (T.Store.view trees.old).shape) }
 {
-    match write_changes(trees, alloc, objects, changes) {
+    match write_changes(trees, alloc, objects, changes, edits) {
         Ok(()) => trees.commit(),
         Err(error) => {
             trees.rollback();
@@ -54,17 +59,17 @@ pub fn save<T: Store>(
     }
 }
 
-/// Brings what changed into the tables as the transaction sees them.
+/// Brings what changed, and edits of the session map, into the tables as the transaction sees them.
 pub fn write_changes<T: Store>(
     trees: &mut T,
     alloc: Global,
     objects: &MemStore,
     changes: &Changes,
+    edits: &[RowEdit],
 ) -> Result<(), StoreError>
     requires { IsClean (T.Store.view trees.old) → HasTables (T.Store.view trees.old) }
     ensures ok { OnOk result (IsClean (T.Store.view trees.new)
-        → SpellsBut (T.Store.view trees.old).trees objects.now (has_name changes.now) (has_key changes.now)
-        → HaveOwners (T.Store.view trees.old).trees → SpellsObjects (T.Store.view trees.new).trees objects.now) }
+        → Brings (T.Store.view trees.old).trees (T.Store.view trees.new).trees objects.now changes.now edits.now) }
     ensures frame { OnOk result (IsClean (T.Store.view trees.new) → OnlyWrites (T.Store.view trees.old) (T.Store.view trees.new)) }
     ensures schema { KeepsSchema (T.Store.view trees.old) (T.Store.view trees.new) }
     ensures quiet { IsQuiet T.Store.view T.Store.faults T.Store.recovers T.Store.is_shielded trees.old trees.new }
@@ -72,7 +77,8 @@ pub fn write_changes<T: Store>(
     let mut key = Row::new(alloc);
     let mut row = Row::new(alloc);
     let fresh = write_headers(trees, alloc, objects, changes.names(), &mut key, &mut row)?;
-    write_pairs(trees, objects, changes.keys(), &fresh, &mut key, &mut row)
+    write_pairs(trees, objects, changes.keys(), &fresh, &mut key, &mut row)?;
+    write_rows(trees, edits, &mut key, &mut row)
 }
 
 // The headers of these objects. Answers the names of those that had no row, and so no pairs.
@@ -91,6 +97,8 @@ fn write_headers<T: Store>(
     ensures fresh { IfOk result (λ fresh. IsClean (T.Store.view trees.new) → (keys : List ℕ → List ℕ → Bool)
         → SpellsBut (T.Store.view trees.old).trees objects.now (is_name_of names.entry) keys → HaveOwners (T.Store.view trees.old).trees
         → AreRight ((T.Store.view trees.new).trees 1) objects.now (map.contains_key fresh)) }
+    ensures others { OnOk result (IsClean (T.Store.view trees.new)
+        → LeavesOthers (T.Store.view trees.old) (T.Store.view trees.new) 0) }
     ensures frame { OnOk result (IsClean (T.Store.view trees.new) → OnlyWrites (T.Store.view trees.old) (T.Store.view trees.new)) }
     ensures schema { KeepsSchema (T.Store.view trees.old) (T.Store.view trees.new) }
     ensures quiet { IsQuiet T.Store.view T.Store.faults T.Store.recovers T.Store.is_shielded trees.old trees.new }
@@ -130,6 +138,8 @@ fn write_pairs<T: Store>(
         → AreRight ((T.Store.view trees.old).trees 1) objects.now (map.contains_key fresh.now)
         → SpellsBut (T.Store.view trees.old).trees objects.now names (is_key_of keys.entry)
         → SpellsBut (T.Store.view trees.new).trees objects.now names (λ _ _. false)) }
+    ensures others { OnOk result (IsClean (T.Store.view trees.new)
+        → LeavesOthers (T.Store.view trees.old) (T.Store.view trees.new) 1) }
     ensures frame { OnOk result (IsClean (T.Store.view trees.new) → OnlyWrites (T.Store.view trees.old) (T.Store.view trees.new)) }
     ensures schema { KeepsSchema (T.Store.view trees.old) (T.Store.view trees.new) }
     ensures quiet { IsQuiet T.Store.view T.Store.faults T.Store.recovers T.Store.is_shielded trees.old trees.new }
@@ -175,10 +185,13 @@ fn put_header<T: Store>(
     row: &mut Row,
 ) -> Result<bool, StoreError>
     requires { IsClean (T.Store.view trees.old) → HasTables (T.Store.view trees.old) }
-    ensures ok { OnOk result (IsClean (T.Store.view trees.new) → IsKeyedTable 1 ((T.Store.view trees.old).trees 0)
+    ensures ok { OnOk result (IsClean (T.Store.view trees.new)
+        → IsKeyedTable one_text ((T.Store.view trees.old).trees 0)
         → PutsRow (T.Store.view trees.old) (T.Store.view trees.new) 0 (object_key name.now) (option_copied header.entry)) }
     ensures new { IfOk result (λ is_new. IsClean (T.Store.view trees.new) → is_new ≡ true
         → (is_some (option_copied header.entry) ≡ true) × (HasRow ((T.Store.view trees.old).trees 0) (object_key name.now) → ⊥)) }
+    ensures others { OnOk result (IsClean (T.Store.view trees.new)
+        → LeavesOthers (T.Store.view trees.old) (T.Store.view trees.new) 0) }
     ensures frame { OnOk result (IsClean (T.Store.view trees.new) → OnlyWrites (T.Store.view trees.old) (T.Store.view trees.new)) }
     ensures schema { KeepsSchema (T.Store.view trees.old) (T.Store.view trees.new) }
     ensures quiet { IsQuiet T.Store.view T.Store.faults T.Store.recovers T.Store.is_shielded trees.old trees.new }
@@ -200,10 +213,13 @@ fn put_pair<T: Store>(
     row: &mut Row,
 ) -> Result<(), StoreError>
     requires { IsClean (T.Store.view trees.old) → HasTables (T.Store.view trees.old) }
-    ensures ok { OnOk result (IsClean (T.Store.view trees.new) → IsKeyedTable 2 ((T.Store.view trees.old).trees 1)
+    ensures ok { OnOk result (IsClean (T.Store.view trees.new)
+        → IsKeyedTable two_texts ((T.Store.view trees.old).trees 1)
         → (is_new ≡ true → (v : List ℕ) → IsIn (entry (pair_key spot.now.0 spot.now.1) v) ((T.Store.view trees.old).trees 1)
         → option_copied value.entry ≡ Some v)
         → PutsRow (T.Store.view trees.old) (T.Store.view trees.new) 1 (pair_key spot.now.0 spot.now.1) (option_copied value.entry)) }
+    ensures others { OnOk result (IsClean (T.Store.view trees.new)
+        → LeavesOthers (T.Store.view trees.old) (T.Store.view trees.new) 1) }
     ensures frame { OnOk result (IsClean (T.Store.view trees.new) → OnlyWrites (T.Store.view trees.old) (T.Store.view trees.new)) }
     ensures schema { KeepsSchema (T.Store.view trees.old) (T.Store.view trees.new) }
     ensures quiet { IsQuiet T.Store.view T.Store.faults T.Store.recovers T.Store.is_shielded trees.old trees.new }

@@ -1,6 +1,7 @@
-//! The tables of objects in a database file that sqlite3 opens: a file is made where there is none, looked at before
-//! anything is written, and opened, or refused in words. It is held by one process at a time. While it is open a log lies
-//! beside it, `FILE-wal`; a run that ends settles the store and removes the log, so that the file alone is whole.
+//! The tables of objects and of the session map in a database file that sqlite3 opens: a file is made where there is none,
+//! looked at before anything is written, and opened, or refused in words. It is held by one process at a time. While it is
+//! open a log lies beside it, `FILE-wal`; a run that ends settles the store and removes the log, so that the file alone is
+//! whole. A file that was made before there was a session map is given an empty one as it is opened.
 #![tactic(auto)]
 
 mod faults;

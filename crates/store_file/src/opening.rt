@@ -1,19 +1,24 @@
 //! The files of a database are opened, or made.
-ghost use Rattle.std.specs.Prelude.{◌≡◌, ◌∷◌, [], IfOk, IsTrue, OnOk, map};
+ghost use Rattle.std.specs.Prelude.{◌≡◌, ◌∷◌, [], IfOk, IsTrue, OnOk, codes, map};
 ghost use Rattle.sqlite_value.specs.Keys.{plain};
 ghost use Rattle.sqlite_trees.specs.View.{IsClean};
 ghost use Rattle.sqlite_trees.specs.declared.store.Shape.TheVariants.{Index};
-ghost use Rattle.sqlite_store.specs.FileStore.{view};
+ghost use Rattle.sqlite_store.specs.Catalog.{Describes};
+ghost use Rattle.sqlite_store.specs.FileStore.{IsReady, schema_of, view};
 ghost use Rattle.sqlite_store.specs.Unopened.{AreUsable, files_of, wanted_by};
 ghost use Rattle.kept_store.specs.Kept.{IsFreshMirror};
+ghost use Rattle.store_file.specs.Names.{HasNoName};
 
 use crate::faults::{OpenFault, refused};
 use crate::looking::{Found, look};
-use crate::versions::versioned;
-use object_tables::schema;
+use crate::versions::{version_fault, versioned};
+use object_tables::{SESSIONS, objects_schema, schema, sessions_table};
 use sqlite_disk::{Disk, Files};
 use sqlite_pager::{Options, PageSize, Pager};
 use sqlite_store::{FileStore, OpenError, Unopened};
+use sqlite_trees::error::StoreError;
+use sqlite_trees::schema::Object;
+use sqlite_trees::store::Alter;
 use sqlite_value::row::Row;
 use sqlite_value::value::ValueRef;
 use std::alloc::{AllocFailed, Global};
@@ -39,7 +44,10 @@ pub fn open_files<D: Disk + Drop>(
     };
     match look(alloc, &mut files, new_size) {
         Err(fault) => Err((fault, files)),
-        Ok(Found::Nothing) => created(unopened(alloc, files, new_size, options, true)?, true),
+        Ok(Found::Nothing) => created(
+            unopened(alloc, files, &schema(), new_size, options, true)?,
+            true,
+        ),
         Ok(Found::Database { size, has_sums }) => open_database(
             alloc, files, size, options, has_sums,
         ),
@@ -58,7 +66,7 @@ fn open_database<D: Disk + Drop>(
     requires db { IsTrue (D.Disk.is_usable files.db) }
     ensures fresh { IfOk result (λ it. IsClean (view it) → IsFreshMirror (view it)) }
 {
-    let unopened = unopened(alloc, files, size, options, has_sums)?;
+    let unopened = unopened(alloc, files, &schema(), size, options, has_sums)?;
     let before = unopened.tally();
     match unopened.open_numbered() {
         Ok(store) => settled(store, has_sums),
@@ -77,7 +85,7 @@ fn open_database<D: Disk + Drop>(
 }
 
 // Looks at a database that hasn't our tables, or is damaged. One that lists nothing was left by a program that stopped
-// while it made them, so they are made.
+// while it made them, so they are made. One that lists no session map may have been made before there was one.
 fn open_other<D: Disk + Drop>(
     alloc: Global,
     files: Files<D>,
@@ -90,16 +98,84 @@ fn open_other<D: Disk + Drop>(
     if !files.log.may_be_used() || !files.db.may_be_used() {
         return Err((OpenFault::Io, files));
     }
-    let mut unopened = unopened(alloc, files, size, options, has_sums)?;
-    match lists_tables(&mut unopened) {
-        Ok(true) => Err((OpenFault::Damaged, unopened.close())),
-        Ok(false) => created(unopened, has_sums),
+    let mut unopened = unopened(alloc, files, &schema(), size, options, has_sums)?;
+    match catalog_of(&mut unopened) {
+        Ok(Listed::Nothing) => created(unopened, has_sums),
+        Ok(Listed::Objects) => open_older(alloc, unopened.close(), size, options, has_sums),
+        Ok(Listed::Sessions) => Err((OpenFault::Damaged, unopened.close())),
         Err(fault) => Err((fault, unopened.close())),
     }
 }
 
-// Whether a database lists our tables, and not nothing. With others it is of something else.
-fn lists_tables<D: Disk + Drop>(unopened: &mut Unopened<D>) -> Result<bool, OpenFault>
+// Opens a database that was made before there was a session map, and makes its table, which is empty then. A crash
+// leaves the two tables that were there, or all three.
+fn open_older<D: Disk + Drop>(
+    alloc: Global,
+    files: Files<D>,
+    size: PageSize,
+    options: Options,
+    has_sums: bool,
+) -> Result<FileStore<D>, (OpenFault, Files<D>)>
+    ensures fresh { IfOk result (λ it. IsClean (view it) → IsFreshMirror (view it)) }
+{
+    if !files.log.may_be_used() || !files.db.may_be_used() {
+        return Err((OpenFault::Io, files));
+    }
+    let unopened = unopened(alloc, files, &objects_schema(), size, options, has_sums)?;
+    let before = unopened.tally();
+    match unopened.open_numbered() {
+        Ok(store) => widened(store, has_sums),
+        Err((error, unopened)) => {
+            let fault = refused(error, before, unopened.tally());
+            Err((fault, unopened.close()))
+        }
+    }
+}
+
+// Makes the table of the session map in a store that has the two others.
+fn widened<D: Disk + Drop>(
+    mut store: FileStore<D>,
+    has_sums: bool,
+) -> Result<FileStore<D>, (OpenFault, Files<D>)>
+    requires ready { IsReady store }
+    requires numbered { IsTrue (view store).is_numbered }
+    requires shapes { map (λ w. w.shape) (schema_of store) ≡ Index plain ∷ Index plain ∷ [] }
+    requires free { HasNoName (schema_of store) (codes "session_map") }
+    ensures fresh { IfOk result (λ it. IsClean (view it) → IsFreshMirror (view it)) }
+{
+    if let Some(fault) = version_fault(has_sums, store.version()) {
+        return Err((fault, store.close()));
+    }
+    match add_sessions(&mut store) {
+        Ok(()) => settled(store, has_sums),
+        Err(error) => Err((OpenFault::from(error), store.close())),
+    }
+}
+
+// Makes the table of the session map, in a transaction of its own.
+fn add_sessions<D: Disk + Drop>(store: &mut FileStore<D>) -> Result<(), StoreError>
+    requires ready { IsReady store.old }
+    requires numbered { IsTrue (view store.old).is_numbered }
+    requires shapes { map (λ w. w.shape) (schema_of store.old) ≡ Index plain ∷ Index plain ∷ [] }
+    requires free { HasNoName (schema_of store.old) (codes "session_map") }
+    ensures { OnOk result (IsClean (view store.new) → IsFreshMirror (view store.new)) }
+{
+    store.create(SESSIONS, &sessions_table())?;
+    store.commit()
+}
+
+// What a database lists of our tables.
+#[derive(Clone, Copy, Debug)]
+enum Listed {
+    Nothing,
+    /// None but those of the objects and their pairs.
+    Objects,
+    /// The session map, too.
+    Sessions,
+}
+
+// What a database lists of our tables. With others it is of something else.
+fn catalog_of<D: Disk + Drop>(unopened: &mut Unopened<D>) -> Result<Listed, OpenFault>
     requires { AreUsable unopened.old }
     ensures usable { OnOk result (AreUsable unopened.new) }
     ensures schema { wanted_by unopened.new ≡ wanted_by unopened.old }
@@ -109,10 +185,7 @@ fn lists_tables<D: Disk + Drop>(unopened: &mut Unopened<D>) -> Result<bool, Open
         Ok(rows) => rows,
         Err(error) => return Err(refused(error, before, unopened.tally())),
     };
-    if !are_ours(rows.as_slice()) {
-        return Err(OpenFault::Foreign);
-    }
-    Ok(!rows.is_empty())
+    listed_by(rows.as_slice())
 }
 
 // Makes the tables.
@@ -121,7 +194,7 @@ fn created<D: Disk + Drop>(
     has_sums: bool,
 ) -> Result<FileStore<D>, (OpenFault, Files<D>)>
     requires usable { AreUsable unopened }
-    requires schema { map (λ w. w.shape) (wanted_by unopened) ≡ Index plain ∷ Index plain ∷ [] }
+    requires schema { map (λ w. w.shape) (wanted_by unopened) ≡ Index plain ∷ Index plain ∷ Index plain ∷ [] }
     ensures fresh { IfOk result (λ it. IsClean (view it) → IsFreshMirror (view it)) }
 {
     let before = unopened.tally();
@@ -151,45 +224,49 @@ fn settled<D: Disk + Drop>(
 fn unopened<D: Disk + Drop>(
     alloc: Global,
     files: Files<D>,
+    schema: &[Object<'_>],
     size: PageSize,
     options: Options,
     has_sums: bool,
 ) -> Result<Unopened<D>, (OpenFault, Files<D>)>
     ensures files { IfOk result (λ it. files_of it ≡ (files.log, files.db)) }
-    ensures schema { IfOk result (λ it. map (λ w. w.shape) (wanted_by it) ≡ Index plain ∷ Index plain ∷ []) }
+    ensures schema { IfOk result (λ it. Describes (wanted_by it) schema.now) }
 {
     let pager = match Pager::new(alloc, files, size, options) {
         Ok(pager) => pager,
         Err(AllocFailed { value }) => return Err((OpenFault::NoMemory, value)),
     };
-    match Unopened::with_sums(alloc, pager, &schema(), has_sums) {
+    match Unopened::with_sums(alloc, pager, schema, has_sums) {
         Ok(unopened) => Ok(unopened),
         Err(AllocFailed { value }) => Err((OpenFault::NoMemory, value.close())),
     }
 }
 
-// Whether each row of the list of objects has the text of one of our tables.
-fn are_ours(rows: &[Row]) -> bool {
+// What the rows of a list of objects are, if each has the text of one of our tables.
+fn listed_by(rows: &[Row]) -> Result<Listed, OpenFault> {
+    let mut found = Listed::Nothing;
     for row in rows {
-        if !is_ours(row) {
-            return false;
+        if is_table(row, &sessions_table()) {
+            found = Listed::Sessions;
+        } else if !is_of_objects(row) {
+            return Err(OpenFault::Foreign);
+        } else if matches!(found, Listed::Nothing) {
+            found = Listed::Objects;
         }
     }
-    true
+    Ok(found)
 }
 
-// The columns of a row are its rowid, type, name, table, root page and text.
-fn is_ours(row: &Row) -> bool {
-    let ValueRef::Text(text) = row.get(5) else {
-        return false;
-    };
-    let [objects, pairs] = schema();
-    is_text(text, objects.sql) || is_text(text, pairs.sql)
+// Whether a row is of the objects' tables.
+fn is_of_objects(row: &Row) -> bool {
+    let [objects, pairs] = objects_schema();
+    is_table(row, &objects) || is_table(row, &pairs)
 }
 
-fn is_text(text: &[u8], sql: Option<&str>) -> bool {
-    match sql {
-        Some(sql) => text == sql.as_bytes(),
-        None => false,
+// Whether a row lists this table. Its columns are its rowid, type, name, table, root page and text.
+fn is_table(row: &Row, table: &Object<'_>) -> bool {
+    match (row.get(5), table.sql) {
+        (ValueRef::Text(text), Some(sql)) => text == sql.as_bytes(),
+        _ => false,
     }
 }

@@ -14,17 +14,26 @@ use sqlite_trees::store::{Alter, Store};
 /// same tables has no sums, and SQLite's own version 0: so no flipped bit of the header turns the one into the other.
 pub const VERSION: u32 = 1;
 
+/// Why a store of this version is refused, if it is.
+pub fn version_fault(has_sums: bool, version: u32) -> Option<OpenFault> {
+    match (has_sums, version) {
+        (true, VERSION) | (_, 0) => None,
+        (false, VERSION) => Some(OpenFault::Damaged),
+        (_, version) => Some(OpenFault::Version(version)),
+    }
+}
+
 /// Looks at the version of a store that was opened, and gives one that was just made its own. Then the log is put into
 /// the file.
 pub fn versioned<D: Disk + Drop>(store: &mut FileStore<D>, has_sums: bool) -> Result<(), OpenFault>
     requires { IsClean (view store.old) → IsFreshMirror (view store.old) }
     ensures { OnOk result (IsClean (view store.new) → IsFreshMirror (view store.new)) }
 {
-    match (has_sums, store.version()) {
-        (true, VERSION) | (false, 0) => {}
-        (true, 0) => set_version(store)?,
-        (false, VERSION) => return Err(OpenFault::Damaged),
-        (_, version) => return Err(OpenFault::Version(version)),
+    if let Some(fault) = version_fault(has_sums, store.version()) {
+        return Err(fault);
+    }
+    if has_sums && store.version() != VERSION {
+        set_version(store)?;
     }
     store.checkpoint()?;
     Ok(())

@@ -8,6 +8,6 @@ returns-clause-ok g c = on_ok_both c.insert.result _ _ _
     (λ done only clean table alone.
     let old = g.T.Store.view c.args.trees.now in
     let early : IsClean old = omega (arith, c.insert.ensures.quiet.clean) in
-    put_added old (g.T.Store.view c.insert.new.self) c.args.tree c.args.key.now c.fill.new.row c.args.value.now c.requires.texts
+    put_added old (g.T.Store.view c.insert.new.self) c.args.tree c.args.key.now c.fill.new.row c.args.value.now c.requires.key
     (c.requires.shaped early) c.in_ok-fill.ensures (done clean) (only clean) table alone)
     c.insert.ensures.ok c.insert.ensures.frame

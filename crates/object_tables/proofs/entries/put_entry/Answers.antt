@@ -10,7 +10,7 @@ pub returns-then-has_value-clause-ok : goal.returns-then-has_value-clause-ok
 returns-then-has_value-clause-ok g c clean table =
     let old = g.T.Store.view c.args.trees.now in
     let new = g.T.Store.view c.find.new.trees in
-    put_already old new c.args.tree c.args.key.now c.find.new.row _ table c.requires.texts
+    put_already old new c.args.tree c.args.key.now c.find.new.row _ table c.requires.key
     (subst (Looks old new c.args.tree c.args.key.now c.find.new.row) c.if-had.true (c.in_ok-had.ensures.ok clean))
     (subst (λ n. HoldsValue c.find.new.row n (option_copied c.args.value)) c.len.ensures (c.has_value.ensures.0 c.if-has_value.true))
 
@@ -25,7 +25,7 @@ returns-in_ok-add_entry-in-Some-clause-ok g c clean table =
           let cleaned : IsClean (g.T.Store.view w.remove.new.self) = subst (λ t. IsClean (g.T.Store.view t)) w.trees-is before in
           let early : IsClean mid = omega (arith, w.remove.ensures.quiet.clean) in
           let first : IsClean old = omega (arith, c.find.ensures.quiet.clean) in
-          rw w.trees-is (put_removed old mid (g.T.Store.view w.remove.new.self) c.args.tree c.args.key.now c.find.new.row table c.requires.texts
+          rw w.trees-is (put_removed old mid (g.T.Store.view w.remove.new.self) c.args.tree c.args.key.now c.find.new.row table c.requires.key
           (subst (Looks old mid c.args.tree c.args.key.now c.find.new.row) w.if-had.true (c.in_ok-had.ensures.ok early))
           (ap (λ (f : ℕ → Shape). f c.args.tree) c.in_ok-had.ensures.schema.shape ∙ c.requires.shaped first)
           (w.in_ok-remove.ensures.ok cleaned) (w.in_ok-remove.ensures.frame cleaned))
@@ -58,7 +58,7 @@ returns-in-None-clause-ok g c =
       | then-had+else-has_value+in_ok-remove w ↦ rw (w.trees-is, c.in-None.is) (λ clean table.
           let early : IsClean mid = omega (arith, w.remove.ensures.quiet.clean) in
           let first : IsClean old = omega (arith, c.find.ensures.quiet.clean) in
-          put_removed old mid (g.T.Store.view w.remove.new.self) c.args.tree c.args.key.now c.find.new.row table c.requires.texts
+          put_removed old mid (g.T.Store.view w.remove.new.self) c.args.tree c.args.key.now c.find.new.row table c.requires.key
           (subst (Looks old mid c.args.tree c.args.key.now c.find.new.row) w.if-had.true (c.in_ok-had.ensures.ok early))
           (ap (λ (f : ℕ → Shape). f c.args.tree) c.in_ok-had.ensures.schema.shape ∙ c.requires.shaped first)
           (w.in_ok-remove.ensures.ok clean) (w.in_ok-remove.ensures.frame clean))

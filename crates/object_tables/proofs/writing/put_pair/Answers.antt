@@ -1,6 +1,6 @@
-use Rattle.std.proofs.Common.{◌≡◌, ◌∙◌, ap, length, option_copied, rules, subst, sym, Some}
+use Rattle.std.proofs.Common.{◌≡◌, ◌∙◌, ap, option_copied, rules, subst, sym, Some}
 use Rattle.std.proofs.lemmas.Result.{on_ok_weaker}
-use Rattle.object_tables.specs.Entries.{HasNoOther, IsKeyedTable, PutsRow}
+use Rattle.object_tables.specs.Entries.{HasNoOther, IsKeyedTable, PutsRow, texts_of}
 use Rattle.object_tables.specs.Spelled.{pair_key}
 use Rattle.object_tables.proofs.writing.put_pair.Goals as goal
 
@@ -16,5 +16,5 @@ returns-in-Some-clause-ok g c = on_ok_weaker c.add_entry.result
     let copied : option_copied c.args.value ≡ Some value = ap option_copied c.in-Some.is in
     let only : HasNoOther rows key value = λ v row. let e : Some value ≡ Some v = sym copied ∙ right c.if-is_new.true v row in cc in
     subst (PutsRow old new 1 key) (sym copied) (subst (λ k. PutsRow old new 1 k (Some value)) is
-    (done clean (subst (λ k. IsKeyedTable (length k) rows) (sym is) table) (subst (λ k. HasNoOther rows k value) (sym is) only))))
+    (done clean (subst (λ k. IsKeyedTable (texts_of k) rows) (sym is) table) (subst (λ k. HasNoOther rows k value) (sym is) only))))
     c.add_entry.ensures.ok

@@ -5,11 +5,11 @@ use Rattle.object_tables.specs.Entries.{HasRow, PutsRow}
 use Rattle.object_tables.specs.Noted.{is_name_of}
 use Rattle.object_tables.specs.Spelled.{SpellsBut, object_key}
 use Rattle.object_tables.proofs.SpelledLaws.{header_put, listing_put, none_fresh, right_after}
-use Rattle.object_tables.proofs.StoreLaws.{writes_on}
+use Rattle.object_tables.proofs.StoreLaws.{others_then, writes_on}
 use Rattle.object_tables.proofs.writing.write_headers.Goals as goal
 
 pub loop-name-init : goal.loop-name-init
-loop-name-init g c = (search rules, search rules, search rules, search rules, λ clean keys spelled owners. none_fresh _ _ c.args.objects.now _ refl c.new-fresh.ensures)
+loop-name-init g c = (search rules, search rules, search rules, search rules, λ clean keys spelled owners. none_fresh _ _ c.args.objects.now _ refl c.new-fresh.ensures, λ clean t away. refl)
 
 pub loop-name-preserved : goal.loop-name-preserved
 loop-name-preserved g c =
@@ -40,6 +40,7 @@ loop-name-preserved g c =
           (λ is_new. let it = c.in_ok-is_new.ensures.new clean is_new in
           (subst (λ o. is_some o ≡ true) header it.0, λ row. it.1 (subst (λ x. HasRow (mid.trees 0) (object_key x)) (sym same) row)))
           (λ m there. elim (c.in_ok-note_new.ensures m there) [ inl was ↦ inl was | inr is ↦ inr (is.0 ∙ same, is.1) ]),
+      λ clean. others_then (g.T.Store.view c.args.trees.now) mid new 0 (c.loop-name.invariant.5 (omega (arith, c.put_header.ensures.quiet.clean))) (c.in_ok-is_new.ensures.others clean),
     )
 
 pub returns-clause-ok : goal.returns-clause-ok

@@ -1,5 +1,6 @@
 use Rattle.std.proofs.Common.{ℕ, Bool, List, length}
 use Rattle.sqlite_trees.specs.View.{IsClean, IsQuiet, KeepsSchema, OnlyWrites}
+use Rattle.object_tables.specs.Entries.{LeavesOthers}
 use Rattle.object_tables.specs.Noted.{is_name_of}
 use Rattle.object_tables.specs.Spelled.{HaveOwners, SpellsBut}
 use Rattle.object_tables.proofs.SpelledLaws.{Listing}
@@ -15,6 +16,7 @@ invariant-loop-name g l =
     × KeepsSchema (g.T.Store.view l.fn.trees) (g.T.Store.view l.trees)
     × (IsClean (g.T.Store.view l.trees) → (keys : List ℕ → List ℕ → Bool) → SpellsBut (g.T.Store.view l.fn.trees).trees l.fn.objects (is_name_of l.fn.names) keys
     → HaveOwners (g.T.Store.view l.fn.trees).trees → Listing (g.T.Store.view l.fn.trees).trees (g.T.Store.view l.trees).trees l.fn.objects l.fresh)
+    × (IsClean (g.T.Store.view l.trees) → LeavesOthers (g.T.Store.view l.fn.trees) (g.T.Store.view l.trees) 0)
 
 abbrev pub decreases-loop-name : goal.decreases-loop-name
 decreases-loop-name g l = length l.names

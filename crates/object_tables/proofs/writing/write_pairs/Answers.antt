@@ -5,7 +5,7 @@ use Rattle.object_tables.specs.Entries.{PutsRow}
 use Rattle.object_tables.specs.Noted.{is_key_of}
 use Rattle.object_tables.specs.Spelled.{SpellsBut, pair_key, value_at}
 use Rattle.object_tables.proofs.SpelledLaws.{right_put, value_put}
-use Rattle.object_tables.proofs.StoreLaws.{writes_on}
+use Rattle.object_tables.proofs.StoreLaws.{others_then, writes_on}
 use Rattle.object_tables.proofs.writing.write_pairs.Goals as goal
 
 pub loop-spot-preserved : goal.loop-spot-preserved
@@ -27,6 +27,7 @@ loop-spot-preserved g c =
       λ clean. writes_on (g.T.Store.view c.args.trees.now) mid new (c.loop-spot.invariant.1 (omega (arith, c.put_pair.ensures.quiet.clean))) (c.in_ok-put_pair.ensures.frame clean),
       search rules,
       search rules,
+      λ clean. others_then (g.T.Store.view c.args.trees.now) mid new 1 (c.loop-spot.invariant.4 (omega (arith, c.put_pair.ensures.quiet.clean))) (c.in_ok-put_pair.ensures.others clean),
     )
 
 pub returns-clause-ok : goal.returns-clause-ok

@@ -30,3 +30,17 @@ returns-in-Ok-clause-back g c clean all =
     (c.is_mirrored.ensures early)
     (subst (λ t. g.T.Store.recovers t (g.T.Store.view new).committed) c.into_tables-tables.ensures (c.in_ok-crash_and_reopen.ensures.found late))
     (c.in-Ok.ensures.objects clean) all
+
+pub returns-in-Ok-clause-outcome : goal.returns-in-Ok-clause-outcome
+returns-in-Ok-clause-outcome g c clean =
+    let tables = c.into_tables-tables.result in
+    let new = c.crash_and_reopen.new.self in
+    let late : IsClean (g.T.Store.view new) = omega (arith, c.in-Ok.ensures.clean) in
+    let fresh = fresh_again (g.T.Store.view tables) (g.T.Store.view new) late c.in_ok-crash_and_reopen.ensures.fresh (c.has_tables.ensures c.if-not-has_tables.false) (g.met.T.Store.broken_if_shut new)
+    (λ sound same. (g.met.T.Store.unaltered new sound (ap (λ t. t (2 ^ 32)) same)).0) in
+    record {
+      db = (g.T.Store.view new).committed;
+      was = subst (λ t. g.T.Store.recovers t (g.T.Store.view new).committed) c.into_tables-tables.ensures (c.in_ok-crash_and_reopen.ensures.found late);
+      spelled = c.in-Ok.ensures.objects clean;
+      now = λ d may. g.met.T.Store.settled new d fresh.is_open (c.in-Ok.ensures.outcomes d may);
+    }
