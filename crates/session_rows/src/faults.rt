@@ -1,4 +1,7 @@
 //! Why a value is no row.
+ghost use Rattle.std.specs.Prelude.{◌≡◌};
+ghost use Rattle.session_rows.specs.declared.faults.RowFault.TheVariants.{NoMemory};
+
 use std::alloc::AllocError;
 use thiserror::Error;
 
@@ -25,7 +28,9 @@ pub enum RowFault {
 }
 
 impl From<AllocError> for RowFault {
-    fn from(_: AllocError) -> RowFault {
+    ghost from_gives = { λ _ fault. fault ≡ NoMemory };
+
+    fn from(_error: AllocError) -> RowFault {
         RowFault::NoMemory
     }
 }

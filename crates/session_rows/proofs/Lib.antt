@@ -1,0 +1,4 @@
+pub mod Common
+pub mod RowLaws
+pub mod ToldLaws
+pub mod Walks
