@@ -1,5 +1,5 @@
 -- A row that gets a reply more, as it is written and as it is read.
-use Rattle.session_rows.proofs.Common.{AllByRecursion, Ascend, BelowMark, Err, IsRow, IsTold, IsTrue, IsWrong, Length, List, NoMemory, NoReply, None, OtherRange, OutOfOrder, ReadsRow, ReadsTold, Row, RowFault, Some, SpellsRow, Told, [], ap, append_assoc, arith, counted_bytes, flat_map, flat_map_more, inr, length, length-append, little_bytes, ltb, ltb-true, next_from, next_number, nat_tests, none-some, refl, reply_bytes, row_bytes, same_Some, slice_get, subst, suc, sym, told_bytes, with_told, ℕ, ◌++◌, ◌+◌, ◌-◌, ◌<◌, ◌∙◌, ◌∷◌, ◌≡◌, ◌≤◌}
+use Rattle.session_rows.proofs.Common.{AllByRecursion, Ascend, BelowMark, Err, IsRow, IsTold, IsTrue, IsWrong, Length, List, NoMemory, NoReply, None, Ok, OnOk, OtherRange, OutOfOrder, ReadsRow, ReadsTold, Result, Row, RowFault, Some, SpellsRow, Told, [], ap, append_assoc, arith, cond, counted_bytes, flat_map, flat_map_more, inr, is_ok, length, length-append, little_bytes, ltb, ltb-true, next_from, next_number, nat_tests, none-some, refl, reply_bytes, row_bytes, same_Some, slice_get, subst, suc, sym, told_bytes, with_told, ℕ, ◌++◌, ◌+◌, ◌-◌, ◌<◌, ◌∙◌, ◌∷◌, ◌≡◌, ◌≤◌}
 
 ascend_more : (least : ℕ) (xs : List Told) (told : Told) → Ascend least xs → next_from least xs ≤ told.tid → Ascend least (xs ++ told ∷ [])
 ascend_more least [] told up after = (after, tt)
@@ -19,6 +19,12 @@ bytes_more row told = flat_map_more told_bytes (little_bytes 8 row.mark) row.rep
 pub spelled_more : (bytes : List ℕ) (row : Row) (told : Told) → IsTold told → SpellsRow bytes row → next_number row ≤ told.tid → SpellsRow (bytes ++ told_bytes told) (with_told row told)
 spelled_more bytes row told known s after =
     record { known = row_more row told s.known known after; spelled = ap (λ (t : List ℕ). t ++ told_bytes told) s.spelled ∙ bytes_more row told }
+
+-- what was appended
+pub pushed : {A E : Type 0} (r : Result A E) (new old text : List ℕ) (told : Told) → new ≡ cond (is_ok r) (old ++ text) old → text ≡ told_bytes told → IsTold told
+    → OnOk r ((row : Row) → SpellsRow old row → next_number row ≤ told.tid → SpellsRow new (with_told row told))
+pushed (Ok x) new old text told e is known = λ row s after. subst (λ (t : List ℕ). SpellsRow t (with_told row told)) (sym (e ∙ ap (λ (t : List ℕ). old ++ t) is)) (spelled_more old row told known s after)
+pushed (Err x) new old text told e is known = tt
 
 -- ---- a row that is read
 

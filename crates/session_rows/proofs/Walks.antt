@@ -47,7 +47,7 @@ walk mark least (x ∷ xs) (y ∷ ys) r s a b low (first, known) (another, other
 -- ---- whole values
 
 -- a row, and what is left of bytes behind it
-record Reads_as (bytes : List ℕ) (row : Row) (rest : List ℕ) (out : Option RowFault) : Type 0 where
+record IsSplit (bytes : List ℕ) (row : Row) (rest : List ℕ) (out : Option RowFault) : Type 0 where
   known : IsRow row
   parts : bytes ≡ row_bytes row ++ rest
   end : Ends row.mark (next_from row.mark row.replies) rest out
@@ -57,7 +57,7 @@ mark_first bytes row rest is e =
     let more = flat_map told_bytes row.replies in
     ap (number_at 8) (e ∙ append_assoc (little_bytes 8 row.mark) more rest) ∙ number_again 8 row.mark (more ++ rest) (omega (arith, is.mark))
 
-one_way : (bytes : List ℕ) (x y : Row) (r s : List ℕ) (a b : Option RowFault) → Reads_as bytes x r a → Reads_as bytes y s b → (x ≡ y) × (a ≡ b)
+one_way : (bytes : List ℕ) (x y : Row) (r s : List ℕ) (a b : Option RowFault) → IsSplit bytes x r a → IsSplit bytes y s b → (x ≡ y) × (a ≡ b)
 one_way bytes x y r s a b p q =
     let read = same_Some (x.mark, flat_map told_bytes x.replies ++ r) (y.mark, flat_map told_bytes y.replies ++ s) (sym (mark_first bytes x r p.known p.parts) ∙ mark_first bytes y s q.known q.parts) in
     let marks : y.mark ≡ x.mark = ap (λ (w : ℕ × List ℕ). w.0) (sym read) in
@@ -67,10 +67,10 @@ one_way bytes x y r s a b p q =
     let same = walk x.mark x.mark x.replies y.replies r s a b (omega arith) p.known.told q.known.told p.known.ascend ups p.end end rests in
     ((λ i. record { mark = sym marks i; replies = same.0 i }), same.1)
 
-of_row : (bytes : List ℕ) (row : Row) → SpellsRow bytes row → Reads_as bytes row [] None
+of_row : (bytes : List ℕ) (row : Row) → SpellsRow bytes row → IsSplit bytes row [] None
 of_row bytes row s = record { known = s.known; parts = s.spelled ∙ sym (append-nil (row_bytes row)); end = refl }
 
-of_broken : (bytes : List ℕ) (fault : RowFault) (b : IsBroken bytes fault) → Reads_as bytes b.front b.rest (Some fault)
+of_broken : (bytes : List ℕ) (fault : RowFault) (b : IsBroken bytes fault) → IsSplit bytes b.front b.rest (Some fault)
 of_broken bytes fault b = record { known = b.known; parts = b.parts; end = (b.more, b.wrong) }
 
 pub one_row : (bytes : List ℕ) (a b : Row) → SpellsRow bytes a → SpellsRow bytes b → a ≡ b

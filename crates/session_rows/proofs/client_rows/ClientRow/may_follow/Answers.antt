@@ -4,4 +4,6 @@ use Rattle.session_rows.proofs.RowLaws.{may_follow}
 use Rattle.session_rows.proofs.client_rows.ClientRow.may_follow.Goals as goal
 
 pub returns-in-Some : goal.returns-in-Some
-returns-in-Some c = λ low. may_follow c.args.self.now.mark c.args.tid c.args.self.now.replies c.in-Some.last.now (sym c.in-Some.ensures.value)
+returns-in-Some c =
+    let last = sym (rw c.deref.ensures.value at c.in-Some.ensures.value) in
+    rw (← c.self.view_is) (λ low. may_follow c.self.inside.mark c.args.tid c.self.inside.replies.items c.in-Some.last.now last)
