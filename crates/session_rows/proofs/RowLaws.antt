@@ -1,5 +1,5 @@
 -- A row that gets a reply more, as it is written and as it is read.
-use Rattle.session_rows.proofs.Common.{AllByRecursion, Ascend, BelowMark, Err, IsRow, IsTold, IsTrue, IsWrong, Length, List, NoMemory, NoReply, None, Ok, OnOk, OtherRange, OutOfOrder, ReadsRow, ReadsTold, Result, Row, RowFault, Some, SpellsRow, Told, [], ap, append_assoc, arith, cond, counted_bytes, flat_map, flat_map_more, inr, is_ok, length, length-append, little_bytes, ltb, ltb-true, next_from, next_number, nat_tests, none-some, refl, reply_bytes, row_bytes, same_Some, slice_get, subst, suc, sym, told_bytes, with_told, ℕ, ◌++◌, ◌+◌, ◌-◌, ◌<◌, ◌∙◌, ◌∷◌, ◌≡◌, ◌≤◌}
+use Rattle.session_rows.proofs.Common.{AllByRecursion, Ascend, BelowMark, Err, IsRow, IsTold, IsTrue, IsWrong, Length, List, NoMemory, NoReply, Ok, OnOk, OtherRange, OutOfOrder, ReadsRow, ReadsTold, Result, Row, RowFault, Some, SpellsRow, Told, [], ap, append_assoc, arith, cond, counted_bytes, flat_map, flat_map_more, inr, is_ok, length, length-append, little_bytes, ltb, next_from, next_number, nat_tests, none-some, refl, reply_bytes, row_bytes, same_Some, slice_get, subst, suc, sym, told_bytes, with_told, ℕ, ◌++◌, ◌+◌, ◌-◌, ◌<◌, ◌∙◌, ◌∷◌, ◌≡◌, ◌≤◌}
 
 ascend_more : (least : ℕ) (xs : List Told) (told : Told) → Ascend least xs → next_from least xs ≤ told.tid → Ascend least (xs ++ told ∷ [])
 ascend_more least [] told up after = (after, tt)

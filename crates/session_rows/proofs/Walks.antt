@@ -1,5 +1,5 @@
 -- Bytes are read in one way: replies that are sound, up to the end of the bytes or to what is wrong.
-use Rattle.session_rows.proofs.Common.{AllByRecursion, Ascend, IsBroken, IsNoRow, IsRow, IsTold, Length, List, None, Option, Row, RowFault, Some, SpellsReply, SpellsRow, Told, [], ap, append-nil, append_assoc, arith, flat_map, inl, inr, length, length-append, little_bytes, next_from, none-some, number_again, number_at, one_reply, refl, reply_bytes, row_bytes, same_Some, subst, sym, told_bytes, wrong_told, ℕ, ◌++◌, ◌+◌, ◌<◌, ◌^◌, ◌∙◌, ◌∷◌, ◌≡◌, ◌≤◌}
+use Rattle.session_rows.proofs.Common.{AllByRecursion, Ascend, IsBroken, IsNoRow, IsRow, IsTold, List, None, Option, Row, RowFault, Some, SpellsRow, Told, [], ap, append-nil, append_assoc, arith, flat_map, inl, inr, length, length-append, little_bytes, next_from, none-some, number_again, number_at, one_reply, refl, reply_bytes, row_bytes, same_Some, subst, sym, told_bytes, wrong_told, ℕ, ◌++◌, ◌+◌, ◌<◌, ◌∙◌, ◌∷◌, ◌≡◌, ◌≤◌}
 use Rattle.session_rows.specs.ClientRows.{told_at}
 use Rattle.session_rows.proofs.ToldLaws.{first_told, none_told, nothing_wrong}
 
