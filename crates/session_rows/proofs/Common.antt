@@ -21,4 +21,4 @@ pub use Rattle.std.proofs.lemmas.List.Concat.{flat_map-cons}
 pub use Rattle.std.proofs.lemmas.Bool.Decides.{nat_tests}
 pub use Rattle.std.proofs.lemmas.Option.{none-some, same_Some}
 pub use Rattle.std.specs.List.{AllByRecursion, flat_map, slice_get}
-pub use Rattle.std.specs.Prelude.{Err, IsTrue, Ok, OnOk, Result, is_ok}
+pub use Rattle.std.specs.Prelude.{Err, IsTrue, Ok, OnOk, Result, is_ok, ◌⊎◌}

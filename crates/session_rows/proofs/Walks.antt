@@ -1,5 +1,5 @@
 -- Bytes are read in one way: replies that are sound, up to the end of the bytes or to what is wrong.
-use Rattle.session_rows.proofs.Common.{AllByRecursion, Ascend, IsBroken, IsNoRow, IsRow, IsTold, List, None, Option, Row, RowFault, Some, SpellsRow, Told, [], ap, append-nil, append_assoc, arith, flat_map, inl, inr, length, length-append, little_bytes, next_from, none-some, number_again, number_at, one_reply, refl, reply_bytes, row_bytes, same_Some, subst, sym, told_bytes, wrong_told, ℕ, ◌++◌, ◌+◌, ◌<◌, ◌∙◌, ◌∷◌, ◌≡◌, ◌≤◌}
+use Rattle.session_rows.proofs.Common.{AllByRecursion, Ascend, IsBroken, BelowMark, Err, IsNoRow, IsRow, IsTold, Length, List, NoMemory, NoReply, None, Ok, Option, OtherRange, OutOfOrder, ReadsRow, Result, Row, RowFault, Some, SpellsRow, Told, [], ap, append-nil, append_assoc, arith, flat_map, inl, inr, length, length-append, little_bytes, next_from, none-some, number_again, number_at, one_reply, refl, reply_bytes, row_bytes, same_Some, subst, sym, told_bytes, wrong_told, ℕ, ◌++◌, ◌+◌, ◌<◌, ◌∙◌, ◌⊎◌, ◌∷◌, ◌≡◌, ◌≤◌}
 use Rattle.session_rows.specs.ClientRows.{told_at}
 use Rattle.session_rows.proofs.ToldLaws.{first_told, none_told, nothing_wrong}
 
@@ -88,3 +88,12 @@ one_reason bytes a b (inl p) (inl q) = p.1 ∙ sym q.1
 one_reason bytes a b (inl p) (inr q) = absurd (marked bytes q.front q.rest q.parts p.0)
 one_reason bytes a b (inr p) (inl q) = absurd (marked bytes p.front p.rest p.parts q.0)
 one_reason bytes a b (inr p) (inr q) = same_Some a b (one_way bytes p.front q.front p.rest q.rest (Some a) (Some b) (of_broken bytes a p) (of_broken bytes b q)).1
+
+pub row_again : (bytes : List ℕ) (row : Row) (answer : Result Row RowFault) → SpellsRow bytes row → ReadsRow bytes answer → (answer ≡ Ok row) ⊎ (answer ≡ Err NoMemory)
+row_again bytes row (Ok read) s r = inl (ap (λ (x : Row). Ok x) (one_row bytes read row r s))
+row_again bytes row (Err NoMemory) s r = inr refl
+row_again bytes row (Err Length) s r = absurd (no_row_spelled bytes Length row r s)
+row_again bytes row (Err BelowMark) s r = absurd (no_row_spelled bytes BelowMark row r s)
+row_again bytes row (Err OutOfOrder) s r = absurd (no_row_spelled bytes OutOfOrder row r s)
+row_again bytes row (Err NoReply) s r = absurd (no_row_spelled bytes NoReply row r s)
+row_again bytes row (Err OtherRange) s r = absurd r
