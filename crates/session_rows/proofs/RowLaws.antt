@@ -1,5 +1,5 @@
 -- A row that gets a reply more, as it is written and as it is read.
-use Rattle.session_rows.proofs.Common.{AllByRecursion, Ascend, BelowMark, Err, IsRow, IsTold, IsTrue, IsWrong, Length, List, NoMemory, NoReply, Ok, OnOk, OtherRange, OutOfOrder, ReadsRow, ReadsTold, Result, Row, RowFault, Some, SpellsRow, Told, [], ap, append_assoc, arith, cond, counted_bytes, flat_map, flat_map_more, inr, is_ok, length, length-append, little_bytes, ltb, next_from, next_number, nat_tests, none-some, refl, reply_bytes, row_bytes, same_Some, slice_get, subst, suc, sym, told_bytes, with_told, ℕ, ◌++◌, ◌+◌, ◌-◌, ◌<◌, ◌∙◌, ◌∷◌, ◌≡◌, ◌≤◌}
+use Rattle.session_rows.proofs.Common.{AllByRecursion, Ascend, BelowMark, Err, IsRow, IsTold, IsTrue, IsNotRead, Length, List, NoMemory, NoReply, Ok, OnOk, OtherRange, OutOfOrder, ReadsRow, ReadsTold, Result, Row, RowFault, Some, SpellsRow, Told, [], ap, append_assoc, arith, cond, counted_bytes, flat_map, flat_map_more, inr, is_ok, length, length-append, little_bytes, ltb, next_from, next_number, nat_tests, none-some, refl, reply_bytes, row_bytes, same_Some, slice_get, subst, suc, sym, told_bytes, with_told, ℕ, ◌++◌, ◌+◌, ◌-◌, ◌<◌, ◌∙◌, ◌∷◌, ◌≡◌, ◌≤◌}
 
 ascend_more : (least : ℕ) (xs : List Told) (told : Told) → Ascend least xs → next_from least xs ≤ told.tid → Ascend least (xs ++ told ∷ [])
 ascend_more least [] told up after = (after, tt)
@@ -62,7 +62,7 @@ longer whole row [] so more = absurd (more refl)
 longer whole row (b ∷ rest) so more = omega (arith, ap length so.parts, length-append (row_bytes row) (b ∷ rest), length-append (little_bytes 8 row.mark) (flat_map told_bytes row.replies))
 
 -- why no further reply is read is why the whole is no row
-pub no_row : (whole : List ℕ) (row : Row) (rest : List ℕ) (fault : RowFault) → IsRead whole row rest → (rest ≡ [] → ⊥) → IsWrong row rest fault → ReadsRow whole (Err fault)
+pub no_row : (whole : List ℕ) (row : Row) (rest : List ℕ) (fault : RowFault) → IsRead whole row rest → (rest ≡ [] → ⊥) → IsNotRead row rest fault → ReadsRow whole (Err fault)
 no_row whole row rest Length so more wrong = inr (record { front = row; rest = rest; known = so.known; parts = so.parts; more = more; wrong = wrong })
 no_row whole row rest BelowMark so more wrong = inr (record { front = row; rest = rest; known = so.known; parts = so.parts; more = more; wrong = wrong })
 no_row whole row rest OutOfOrder so more wrong = inr (record { front = row; rest = rest; known = so.known; parts = so.parts; more = more; wrong = wrong })

@@ -126,10 +126,10 @@ pub record ReadsTold (row : Row) (bytes : List ℕ) (new : Row) (rest : List ℕ
   pub parts : bytes ≡ told_bytes told ++ rest
 
 -- why no further reply is read of bytes
-abbrev pub IsWrong : Row → List ℕ → RowFault → Type 0
-IsWrong row bytes NoMemory = Unit {0}
-IsWrong row bytes Length = wrong_told row.mark (next_number row) (told_at bytes) ≡ Some Length
-IsWrong row bytes BelowMark = wrong_told row.mark (next_number row) (told_at bytes) ≡ Some BelowMark
-IsWrong row bytes OutOfOrder = wrong_told row.mark (next_number row) (told_at bytes) ≡ Some OutOfOrder
-IsWrong row bytes NoReply = wrong_told row.mark (next_number row) (told_at bytes) ≡ Some NoReply
-IsWrong row bytes OtherRange = ⊥
+abbrev pub IsNotRead : Row → List ℕ → RowFault → Type 0
+IsNotRead row bytes NoMemory = Unit {0}
+IsNotRead row bytes Length = wrong_told row.mark (next_number row) (told_at bytes) ≡ Some Length
+IsNotRead row bytes BelowMark = wrong_told row.mark (next_number row) (told_at bytes) ≡ Some BelowMark
+IsNotRead row bytes OutOfOrder = wrong_told row.mark (next_number row) (told_at bytes) ≡ Some OutOfOrder
+IsNotRead row bytes NoReply = wrong_told row.mark (next_number row) (told_at bytes) ≡ Some NoReply
+IsNotRead row bytes OtherRange = ⊥

@@ -23,6 +23,6 @@ IsKey (Client client) = client < 2 ^ 64
 IsKey (Rank rank) = rank.0 < 16
 
 -- the grammar of keys
-pub record SpellsKey (bytes : List ℕ) (key : Key) : Type 0 where
+pub record SpellsRowKey (bytes : List ℕ) (key : Key) : Type 0 where
   pub known : IsKey key
   pub spelled : bytes ≡ key_bytes key

@@ -7,13 +7,13 @@ use Rattle.session_rows.specs.declared.faults.RowFault.{RowFault}
 use Rattle.session_rows.specs.declared.faults.RowFault.TheVariants.{BelowMark, Length, NoMemory, NoReply, OtherRange, OutOfOrder}
 
 -- a number of the rank's range of 2 ^ 40 numbers, or the end of that range
-pub record IsNextOf (rank : Rank) (next : Ino) : Type 0 where
+pub record IsNextIno (rank : Rank) (next : Ino) : Type 0 where
   pub least : (rank.0 + 1) * 2 ^ 40 ≤ next.0
   pub most : next.0 ≤ (rank.0 + 2) * 2 ^ 40
 
 -- the grammar of a rank's value: the number that it hands out next
 pub record SpellsRank (rank : Rank) (bytes : List ℕ) (next : Ino) : Type 0 where
-  pub known : IsNextOf rank next
+  pub known : IsNextIno rank next
   pub spelled : bytes ≡ little_bytes 8 next.0
 
 -- what reading a rank's value answers

@@ -2,7 +2,7 @@
 ghost use Rattle.std.specs.Prelude.{◌≡◌, ◌<◌, ◌≤◌, ◌↔◌, IfOk, IfErr, IsTrue, OnOk};
 ghost use Rattle.dirfrag_codec.specs.Reading.{Gives};
 ghost use Rattle.reply_codec.specs.Reading.{counted_at};
-ghost use Rattle.session_rows.specs.ClientRows.{IsWrong, ReadsRow, ReadsTold, next_number, told_at, with_told};
+ghost use Rattle.session_rows.specs.ClientRows.{IsNotRead, ReadsRow, ReadsTold, next_number, told_at, with_told};
 
 use crate::faults::RowFault;
 use crate::told::Told;
@@ -52,7 +52,7 @@ impl ClientRow {
     // Reads a further reply, and gives the bytes after it.
     fn read_next<'a>(&mut self, bytes: &'a [u8]) -> Result<&'a [u8], RowFault>
         ensures ok { IfOk result (λ rest. ReadsTold self.old bytes.now self.new rest.now) }
-        ensures err { IfErr result (IsWrong self.old bytes.now) }
+        ensures err { IfErr result (IsNotRead self.old bytes.now) }
     {
         let Some((tid, text, rest)) = told_at(bytes) else {
             return Err(RowFault::Length);

@@ -1,7 +1,7 @@
 //! The keys of rows.
 ghost use Rattle.std.specs.Prelude.{◌≡◌};
 ghost use Rattle.dirfrag_codec.specs.Grammar.{Decodes};
-ghost use Rattle.session_rows.specs.Keys.{SpellsKey, client_bytes, rank_bytes};
+ghost use Rattle.session_rows.specs.Keys.{SpellsRowKey, client_bytes, rank_bytes};
 
 use byteorder::{BigEndian, ByteOrder};
 use mds_types::Rank;
@@ -34,7 +34,7 @@ pub fn rank_key(rank: Rank) -> [u8; 1]
 
 /// What a key names; none, where it is the key of no row: it has 8 bytes or 1, and there are 16 ranks.
 pub fn key_of(bytes: &[u8]) -> Option<Key>
-    ensures { Decodes SpellsKey bytes.now result }
+    ensures { Decodes SpellsRowKey bytes.now result }
 {
     match bytes {
         [rank] if *rank < RANKS => Some(Key::Rank(Rank(*rank))),

@@ -8,13 +8,13 @@ ghost use Rattle.mds_types.specs.declared.ids.Rank.{Rank};
 ghost use Rattle.session_rows.specs.declared.faults.RowFault.{RowFault};
 ghost use Rattle.session_rows.specs.declared.faults.RowFault.TheVariants.{NoMemory};
 ghost use Rattle.session_rows.specs.ClientRows.{IsNoRow, ReadsRow, Row, SpellsRow};
-ghost use Rattle.session_rows.specs.Keys.{SpellsKey, client_bytes};
+ghost use Rattle.session_rows.specs.Keys.{SpellsRowKey, client_bytes};
 ghost use Rattle.session_rows.specs.RankRows.{ReadsRank, SpellsRank};
 
 /// A key names at most one thing, and what it names has one key. The keys of clients are in the order of their numbers.
 pub fn keys_are_spelled_once()
-    ensures meaning { HasOneMeaning SpellsKey }
-    ensures spelling { HasOneSpelling SpellsKey }
+    ensures meaning { HasOneMeaning SpellsRowKey }
+    ensures spelling { HasOneSpelling SpellsRowKey }
     ensures order { (a b : ℕ) → a < 2 ^ 64 → b < 2 ^ 64
         → slice_cmp nat_cmp (client_bytes a) (client_bytes b) ≡ nat_cmp a b }
 {}
