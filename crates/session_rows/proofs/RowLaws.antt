@@ -1,5 +1,5 @@
 -- A row that gets a reply more, as it is written and as it is read.
-use Rattle.session_rows.proofs.Common.{AllByRecursion, Ascend, BelowMark, Err, IsRow, IsTold, IsTrue, IsNotRead, Length, List, NoMemory, NoReply, Ok, OnOk, OtherRange, OutOfOrder, ReadsRow, ReadsTold, Result, Row, RowFault, Some, SpellsRow, Told, [], ap, append_assoc, arith, cond, counted_bytes, flat_map, flat_map_more, inr, is_ok, length, length-append, little_bytes, ltb, next_from, next_number, nat_tests, none-some, refl, reply_bytes, row_bytes, same_Some, slice_get, subst, suc, sym, told_bytes, with_told, ℕ, ◌++◌, ◌+◌, ◌-◌, ◌<◌, ◌∙◌, ◌∷◌, ◌≡◌, ◌≤◌}
+use Rattle.session_rows.proofs.Common.{AllByRecursion, Ascend, BelowMark, Err, IfErr, IsErrAnd, IsRow, IsTold, IsTrue, IsNotRead, Length, List, MayKeep, NoMemory, NoReply, Ok, OnOk, OtherRange, OutOfOrder, ReadsRow, ReadsTold, Result, Row, RowFault, Some, SpellsRow, Told, [], ap, append_assoc, arith, cond, counted_bytes, flat_map_more, inr, is_ok, length, length-append, little_bytes, ltb, next_from, next_number, nat_tests, none-some, reply_bytes, row_bytes, same_Some, slice_get, subst, suc, sym, told_bytes, with_told, ℕ, ◌++◌, ◌+◌, ◌-◌, ◌<◌, ◌∙◌, ◌∷◌, ◌≡◌, ◌≤◌}
 
 ascend_more : (least : ℕ) (xs : List Told) (told : Told) → Ascend least xs → next_from least xs ≤ told.tid → Ascend least (xs ++ told ∷ [])
 ascend_more least [] told up after = (after, tt)
@@ -57,9 +57,10 @@ read_more whole row new rest after so r =
 pub fewer : (row new : Row) (rest after : List ℕ) → ReadsTold row rest new after → length after < length rest
 fewer row new rest after r = omega (arith, ap length r.parts, length-append (told_bytes r.told) after, length-append (little_bytes 8 r.told.tid) (counted_bytes 4 (reply_bytes r.told.reply)))
 
-longer : (whole : List ℕ) (row : Row) (rest : List ℕ) → IsRead whole row rest → (rest ≡ [] → ⊥) → 8 < length whole
-longer whole row [] so more = absurd (more refl)
-longer whole row (b ∷ rest) so more = omega (arith, ap length so.parts, length-append (row_bytes row) (b ∷ rest), length-append (little_bytes 8 row.mark) (flat_map told_bytes row.replies))
+-- memory is wanting for a reply that may be kept
+pub wanting : {A : Type 0} (r : Result A RowFault) (row : Row) (bytes : List ℕ) → IsErrAnd r (λ fault. fault ≡ NoMemory) → MayKeep row bytes → IfErr r (IsNotRead row bytes)
+wanting (Ok x) row bytes e may = tt
+wanting (Err fault) row bytes e may = subst (IsNotRead row bytes) (sym e) may
 
 -- why no further reply is read is why the whole is no row
 pub no_row : (whole : List ℕ) (row : Row) (rest : List ℕ) (fault : RowFault) → IsRead whole row rest → (rest ≡ [] → ⊥) → IsNotRead row rest fault → ReadsRow whole (Err fault)
@@ -67,5 +68,5 @@ no_row whole row rest Length so more wrong = inr (record { front = row; rest = r
 no_row whole row rest BelowMark so more wrong = inr (record { front = row; rest = rest; known = so.known; parts = so.parts; more = more; wrong = wrong })
 no_row whole row rest OutOfOrder so more wrong = inr (record { front = row; rest = rest; known = so.known; parts = so.parts; more = more; wrong = wrong })
 no_row whole row rest NoReply so more wrong = inr (record { front = row; rest = rest; known = so.known; parts = so.parts; more = more; wrong = wrong })
-no_row whole row rest NoMemory so more wrong = longer whole row rest so more
+no_row whole row rest NoMemory so more wrong = record { front = row; rest = rest; known = so.known; parts = so.parts; told = wrong.told; there = wrong.there; follows = wrong.follows }
 no_row whole row rest OtherRange so more wrong = wrong

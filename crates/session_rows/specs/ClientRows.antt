@@ -104,11 +104,20 @@ pub record IsBroken (bytes : List ℕ) (fault : RowFault) : Type 0 where
 abbrev pub IsNoRow : List ℕ → RowFault → Type 0
 IsNoRow bytes fault = ((length bytes < 8) × (fault ≡ Length)) ⊎ IsBroken bytes fault
 
--- what reading a client's value answers: the row that it spells, or why it spells none; memory may be wanting where
--- there is more than the mark
+-- memory may be wanting for a reply whose transaction number and bytes are there, and that may follow those before it
+pub record TakesMemory (bytes : List ℕ) : Type 0 where
+  pub front : Row
+  pub rest : List ℕ
+  pub known : IsRow front
+  pub parts : bytes ≡ row_bytes front ++ rest
+  pub told : ℕ × List ℕ × List ℕ
+  pub there : told_at rest ≡ Some told
+  pub follows : next_number front ≤ told.0
+
+-- what reading a client's value answers: the row that it spells, or why it spells none, or that memory is wanting
 abbrev pub ReadsRow : List ℕ → Result Row RowFault → Type 0
 ReadsRow bytes (Ok row) = SpellsRow bytes row
-ReadsRow bytes (Err NoMemory) = 8 < length bytes
+ReadsRow bytes (Err NoMemory) = TakesMemory bytes
 ReadsRow bytes (Err Length) = IsNoRow bytes Length
 ReadsRow bytes (Err BelowMark) = IsNoRow bytes BelowMark
 ReadsRow bytes (Err OutOfOrder) = IsNoRow bytes OutOfOrder
@@ -125,9 +134,15 @@ pub record ReadsTold (row : Row) (bytes : List ℕ) (new : Row) (rest : List ℕ
   pub read : new ≡ with_told row told
   pub parts : bytes ≡ told_bytes told ++ rest
 
+-- a further reply is there, whose bytes are kept
+pub record MayKeep (row : Row) (bytes : List ℕ) : Type 0 where
+  pub told : ℕ × List ℕ × List ℕ
+  pub there : told_at bytes ≡ Some told
+  pub follows : next_number row ≤ told.0
+
 -- why no further reply is read of bytes
 abbrev pub IsNotRead : Row → List ℕ → RowFault → Type 0
-IsNotRead row bytes NoMemory = Unit {0}
+IsNotRead row bytes NoMemory = MayKeep row bytes
 IsNotRead row bytes Length = wrong_told row.mark (next_number row) (told_at bytes) ≡ Some Length
 IsNotRead row bytes BelowMark = wrong_told row.mark (next_number row) (told_at bytes) ≡ Some BelowMark
 IsNotRead row bytes OutOfOrder = wrong_told row.mark (next_number row) (told_at bytes) ≡ Some OutOfOrder
