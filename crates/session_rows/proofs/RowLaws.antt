@@ -68,5 +68,5 @@ no_row whole row rest Length so more wrong = inr (record { front = row; rest = r
 no_row whole row rest BelowMark so more wrong = inr (record { front = row; rest = rest; known = so.known; parts = so.parts; more = more; wrong = wrong })
 no_row whole row rest OutOfOrder so more wrong = inr (record { front = row; rest = rest; known = so.known; parts = so.parts; more = more; wrong = wrong })
 no_row whole row rest NoReply so more wrong = inr (record { front = row; rest = rest; known = so.known; parts = so.parts; more = more; wrong = wrong })
-no_row whole row rest NoMemory so more wrong = record { front = row; rest = rest; known = so.known; parts = so.parts; told = wrong.told; there = wrong.there; follows = wrong.follows }
+no_row whole row rest NoMemory so more wrong = record { front = row; rest = rest; known = so.known; parts = so.parts; next = wrong }
 no_row whole row rest OtherRange so more wrong = wrong

@@ -78,12 +78,13 @@ told_at bytes = do
   text ← counted_at 4 tid.1
   Some (tid.0, text.0, text.1)
 
--- what is wrong with a reply that is read behind others, if anything, where this is the mark and the least transaction
--- number that may follow
+-- what is wrong with the bytes of a reply, if anything, by the reply that they are
 abbrev pub wrong_text : Option Reply → Option RowFault
 wrong_text None = Some NoReply
 wrong_text (Some reply) = None
 
+-- what is wrong with what is read behind other replies, if anything, where this is the mark and the least transaction
+-- number that may follow
 abbrev pub wrong_told : ℕ → ℕ → Option (ℕ × List ℕ × List ℕ) → Option RowFault
 wrong_told mark least None = Some Length
 wrong_told mark least (Some told) =
@@ -104,20 +105,24 @@ pub record IsBroken (bytes : List ℕ) (fault : RowFault) : Type 0 where
 abbrev pub IsNoRow : List ℕ → RowFault → Type 0
 IsNoRow bytes fault = ((length bytes < 8) × (fault ≡ Length)) ⊎ IsBroken bytes fault
 
--- memory may be wanting for a reply whose transaction number and bytes are there, and that may follow those before it
-pub record TakesMemory (bytes : List ℕ) : Type 0 where
+-- a further reply may be kept, whatever its bytes say: its transaction number and its bytes are there, and it may follow
+pub record MayKeep (row : Row) (rest : List ℕ) : Type 0 where
+  pub told : ℕ × List ℕ × List ℕ
+  pub there : told_at rest ≡ Some told
+  pub follows : next_number row ≤ told.0
+
+-- bytes that begin as the value of a row, behind which a further reply may be kept: where memory may be wanting
+pub record WantsMemory (bytes : List ℕ) : Type 0 where
   pub front : Row
   pub rest : List ℕ
   pub known : IsRow front
   pub parts : bytes ≡ row_bytes front ++ rest
-  pub told : ℕ × List ℕ × List ℕ
-  pub there : told_at rest ≡ Some told
-  pub follows : next_number front ≤ told.0
+  pub next : MayKeep front rest
 
 -- what reading a client's value answers: the row that it spells, or why it spells none, or that memory is wanting
 abbrev pub ReadsRow : List ℕ → Result Row RowFault → Type 0
 ReadsRow bytes (Ok row) = SpellsRow bytes row
-ReadsRow bytes (Err NoMemory) = TakesMemory bytes
+ReadsRow bytes (Err NoMemory) = WantsMemory bytes
 ReadsRow bytes (Err Length) = IsNoRow bytes Length
 ReadsRow bytes (Err BelowMark) = IsNoRow bytes BelowMark
 ReadsRow bytes (Err OutOfOrder) = IsNoRow bytes OutOfOrder
@@ -133,12 +138,6 @@ pub record ReadsTold (row : Row) (bytes : List ℕ) (new : Row) (rest : List ℕ
   pub ascends : next_number row ≤ told.tid
   pub read : new ≡ with_told row told
   pub parts : bytes ≡ told_bytes told ++ rest
-
--- a further reply is there, whose bytes are kept
-pub record MayKeep (row : Row) (bytes : List ℕ) : Type 0 where
-  pub told : ℕ × List ℕ × List ℕ
-  pub there : told_at bytes ≡ Some told
-  pub follows : next_number row ≤ told.0
 
 -- why no further reply is read of bytes
 abbrev pub IsNotRead : Row → List ℕ → RowFault → Type 0

@@ -24,7 +24,8 @@ pub fn keys_are_spelled_once()
 pub fn rows_are_spelled_once()
     ensures meaning { HasOneMeaning SpellsRow }
     ensures spelling { HasOneSpelling SpellsRow }
-    ensures broken { (bytes : List ℕ) (fault : RowFault) (row : Row) → IsNoRow bytes fault → SpellsRow bytes row → ⊥ }
+    ensures broken { (bytes : List ℕ) (fault : RowFault) (row : Row) → IsNoRow bytes fault
+        → SpellsRow bytes row → ⊥ }
     ensures reason { (bytes : List ℕ) (a b : RowFault) → IsNoRow bytes a → IsNoRow bytes b → a ≡ b }
     ensures again { (bytes : List ℕ) (row : Row) (answer : Result Row RowFault) → SpellsRow bytes row
         → ReadsRow bytes answer → (answer ≡ Ok row) ⊎ (answer ≡ Err NoMemory) }
