@@ -1,0 +1,3 @@
+pub mod ClientRows
+pub mod Keys
+pub mod RankRows
