@@ -14,11 +14,10 @@ done_there false Done Else e none = let clash : true ≡ false = sym e in absurd
 
 -- reads leave what isn't clean
 pub reads_keep : (old new : Core) (op : Op) (told : Option Refusal) → new.caches.cap ≡ old.caches.cap → ReadsOp old.state.tree (held_roots old.state) op told old.caches new.caches → KeepsUnclean old new
-reads_keep old new op told cap reads = record { unclean = go told reads; cap = cap }
-  where
-    go : (told : Option Refusal) → ReadsOp old.state.tree (held_roots old.state) op told old.caches new.caches → (rank : ℕ) → unclean_of new.caches rank ≡ unclean_of old.caches rank
-    go None reads = reads_unclean_of (AsksFor old.state.tree (held_roots old.state) op None) NoneEnds old.state.tree.objects old.caches new.caches reads
-    go (Some reason) (offered, reads) = reads_unclean_of (AsksFor old.state.tree (held_roots old.state) op offered) NoneEnds old.state.tree.objects old.caches new.caches reads
+reads_keep old new op told cap reads = record {
+  unclean = reads_unclean_of (AsksFor old.state.tree (held_roots old.state) op reads.0) NoneEnds old.state.tree.objects old.caches new.caches reads.2;
+  cap = cap;
+}
 
 pub same_keep : (old new : Core) → new.caches ≡ old.caches → KeepsUnclean old new
 same_keep old new same = record { unclean = λ rank. ap (λ (c : CacheMap). unclean_of c rank) same; cap = ap (λ (c : CacheMap). c.cap) same }

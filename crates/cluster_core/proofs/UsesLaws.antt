@@ -21,12 +21,12 @@ module _ (tree new : TreeState) (roots : Roots) where
   same_request : (op : Op) (caches : CacheMap) (result : Result Answer Refusal) → UsesRequest tree new roots op caches caches result
   same_request op caches (Ok (Reply client tid place true reply)) = (caches, nothing_read, nothing_came)
   same_request op caches (Ok (Reply client tid place false reply)) = refl
-  same_request op caches (Ok Deferred) = nothing_read
+  same_request op caches (Ok Deferred) = (None, λ none. refl, nothing_read)
   same_request op caches (Ok (Forwarded master)) = refl
   same_request op caches (Ok Nothing) = refl
   same_request op caches (Ok (Job job)) = refl
   same_request op caches (Ok (Sent bytes)) = refl
-  same_request op caches (Err reason) = ((None, nothing_read), λ late. refl)
+  same_request op caches (Err reason) = ((None, λ none. refl, nothing_read), λ late. refl)
 
   pub same_caches : (caches : CacheMap) (result : Result Answer Refusal) (waiting : List Request) → UsesFront tree new roots caches caches result waiting
   same_caches caches result [] = refl
@@ -51,20 +51,21 @@ module _ (tree new : TreeState) (roots : Roots) where
 
   -- reads that make no directory, whatever number is offered
   pub reads_any : (op : Op) (offered : Option Ino) (before after : CacheMap) → ReadsOp tree roots op None before after → Reads (Asks tree roots op offered) NoneEnds tree.objects before after
-  reads_any op offered before after =
+  reads_any op offered before after reads =
       reads_weaker (Asks tree roots op None) NoneEnds (Asks tree roots op offered) NoneEnds (λ r q. ⊎_elim (λ held. inl held) (λ none. absurd none)) (λ r q none. none) tree.objects before after
+      (subst (λ (n : Option Ino). Reads (Asks tree roots op n) NoneEnds tree.objects before after) (reads.1 refl) reads.2)
 
   -- a request that changes nothing
   pub replied_uses : (op : Op) (before after : CacheMap) (inboxes now : Inboxes) (pins pins_now : List Pin) (known sessions : Table) (place : ℕ) (past past_now : List Entry) (rank : Rank) (said : Replied) (result : Result Answer Refusal) (request : Request) (rest : List Request)
       → Replies inboxes now pins pins_now known sessions place past past_now rank said result request rest → ReadsOp tree roots op None before after → UsesRequest tree new roots op before after result
   replied_uses op before after inboxes now pins pins_now known sessions place past past_now rank said (Ok answer) request rest h reads =
       applied_uses op before after answer request.client request.tid place said h.answered (after, reads_any op (number_answered answer) before after reads, nothing_came)
-  replied_uses op before after inboxes now pins pins_now known sessions place past past_now rank said (Err reason) request rest h reads = unready_uses op before after reason (subst IsOfFragments (sym h.named) tt) (None, reads)
+  replied_uses op before after inboxes now pins pins_now known sessions place past past_now rank said (Err reason) request rest h reads = unready_uses op before after reason (subst IsOfFragments (sym h.named) tt) (reads.0, λ none. reads.1 refl, reads.2)
 
 -- what a grant read that is refused behind its reads
 pub waits_told : (tree : TreeState) (roots : Roots) (before after : CacheMap) (reason : Refusal) (waiting : Option Request) → UsesWaiting tree roots before after None waiting → UsesWaiting tree roots before after (Some reason) waiting
 waits_told tree roots before after reason None uses = uses
-waits_told tree roots before after reason (Some request) uses = (None, uses)
+waits_told tree roots before after reason (Some request) uses = (uses.0, λ none. uses.1 refl, uses.2)
 
 -- a request isn't made ready for a reason of the tree
 pub unmade_of : (MayRefuse : Refusal → Type 0) → ((reason : Refusal) → MayRefuse reason → IsOfFragments reason) → (outcome : Outcome) (offered : Option Ino) (reason : Refusal) → WhyUnmade MayRefuse outcome offered reason → IsOfFragments reason
@@ -122,4 +123,4 @@ module _ (before mid new : TreeState) (roots between : Roots) (op : Op) (caches 
       applied_uses before new roots op caches after answer _ _ _ _ h.answered
       (uses.0, reads_on (number_answered answer) uses.0 uses.1, came_on (number_answered answer) uses.0 uses.2)
   applied_later old now past past_now MayRefuse rank (Err reason) request rest h uses = unready_uses before new roots op caches after reason uses.1
-      (uses.0.0, reads_on uses.0.0 after uses.0.1)
+      (uses.0.0, uses.0.1, reads_on uses.0.0 after uses.0.2)

@@ -12,8 +12,7 @@ over tree regions = record { tree = tree; subtrees = regions.roots; exports = re
 module _ (tree new : Core) (regions : Regions) (now : Ranked) (is : over tree regions ≡ now) (op : Op) where
   -- reads that make no directory are so whatever is told
   of_one : (Of : Option Ino → Type 0) (told : Option Refusal) → Of None → WithOffer told Of
-  of_one Of None is = is
-  of_one Of (Some reason) is = (None, is)
+  of_one Of told is = (None, λ none. refl, is)
 
   -- reads of a directory that the operation concerns
   pub keeps_dir : (dir : Ino) (told : Option Refusal) → Concerns op dir.0 → KeepsState tree new told → ReadsDir (held_in regions) dir tree new
@@ -70,6 +69,7 @@ module _ (old new : Ranked) (op : Op) (change : Change) (of : IsChangeOf op chan
       exports = exports;
       reads = (
         number_put change.puts,
+        λ none. let clash : Some reason ≡ None = none in absurd cc,
         reads_less (held_roots old) (NamesDir change) (Concerns op) (ComesWith (state_of old.tree) (held_roots old) change) (ComesFor (state_of old.tree) (held_roots old) op (number_put change.puts)) old.tree new.tree
             (λ d named. change_concerns (shape op) change of d named) (comes_for (state_of old.tree) (held_roots old) op change of) is.1,
       );

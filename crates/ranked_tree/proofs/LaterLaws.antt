@@ -1,5 +1,5 @@
 -- What calls for an operation keep, one after the other, and why one is refused after others that were not.
-use Rattle.std.specs.Prelude.{◌≡◌, ℕ, Option, None, Some}
+use Rattle.std.specs.Prelude.{◌≡◌, ℕ, Option, None, refl}
 use Rattle.std.proofs.Common.{inl, inr, sym, ap, subst, ⊎_elim, ◌∙◌}
 use Rattle.mds_types.specs.declared.ids.Ino.{Ino}
 use Rattle.mds_types.specs.declared.operations.Op.{Op}
@@ -16,7 +16,7 @@ use Rattle.mdcache.specs.Core.{Core, state_of}
 use Rattle.mdcache.specs.Frags.{KeepsState}
 use Rattle.mdcache.specs.State.{State}
 use Rattle.mdcache.proofs.FragsLaws.{keeps_on, lacked_at, refused_later}
-use Rattle.ranked_tree.specs.Held.{AsksFor, ComesFor, LacksPlacesAsked, LacksPlacesFor, ReadsFor, WithOffer}
+use Rattle.ranked_tree.specs.Held.{AsksFor, ComesFor, LacksPlacesAsked, LacksPlacesFor, ReadsFor}
 use Rattle.ranked_tree.specs.Ranked.{KeepsRanked, MayRefuse, Ranked, held_roots}
 use Rattle.ranked_tree.specs.Subtrees.{Rules}
 
@@ -33,28 +33,25 @@ held_still a b op told kept = ap (λ (r : Roots). holding b.exports r) kept.root
 
 -- ---- reads for an operation, after others that were not refused
 
-module _ (a b c : Ranked) (op : Op) (first : KeepsRanked a b op None) where
-  abbrev FromBoth : Option Refusal → Ranked → Ranked → Type 0
-  FromBoth told old new = WithOffer told (λ (number : Option Ino). ReadsFor (held_roots old) (Concerns op) (ComesFor (state_of old.tree) (held_roots old) op number) old.tree new.tree)
+module _ (a b c : Ranked) (op : Op) (first : KeepsRanked a b op None) (offered : Option Ino) where
+  abbrev Asks : State → Roots → Option Ino → ℕ → Leaf → Type 0
+  Asks s roots number = AsksFor s roots (Concerns op) (ComesFor s roots op number)
 
-  reads_after : (number : Option Ino) → ReadsFor (held_roots b) (Concerns op) (ComesFor (state_of b.tree) (held_roots b) op number) b.tree c.tree
-      → ReadsFor (held_roots a) (Concerns op) (ComesFor (state_of a.tree) (held_roots a) op number) a.tree c.tree
-  reads_after number second =
-      reads_then (AsksFor (state_of a.tree) (held_roots a) (Concerns op) (ComesFor (state_of a.tree) (held_roots a) op number)) NoneEnds a.tree.objects a.tree.caches b.tree.caches c.tree.caches
-      (reads_less (held_roots a) (Concerns op) (Concerns op) (ComesFor (state_of a.tree) (held_roots a) op None) (ComesFor (state_of a.tree) (held_roots a) op number) a.tree b.tree (λ d is. is) (λ r q none. absurd none) first.reads)
-      (subst (λ (s : State). Reads (AsksFor s (held_roots a) (Concerns op) (ComesFor s (held_roots a) op number)) NoneEnds s.objects b.tree.caches c.tree.caches) first.tree.state
-      (subst (λ (r : Roots). ReadsFor r (Concerns op) (ComesFor (state_of b.tree) r op number) b.tree c.tree) (held_still a b op None first) second))
-
-  with_offer : (told : Option Refusal) → FromBoth told b c → FromBoth told a c
-  with_offer None second = reads_after None second
-  with_offer (Some reason) (number, second) = (number, reads_after number second)
+  reads_after : ReadsFor (held_roots b) (Concerns op) (ComesFor (state_of b.tree) (held_roots b) op offered) b.tree c.tree
+      → ReadsFor (held_roots a) (Concerns op) (ComesFor (state_of a.tree) (held_roots a) op offered) a.tree c.tree
+  reads_after second =
+      let none = subst (λ (n : Option Ino). ReadsFor (held_roots a) (Concerns op) (ComesFor (state_of a.tree) (held_roots a) op n) a.tree b.tree) (first.reads.1 refl) first.reads.2 in
+      reads_then (Asks (state_of a.tree) (held_roots a) offered) NoneEnds a.tree.objects a.tree.caches b.tree.caches c.tree.caches
+      (reads_less (held_roots a) (Concerns op) (Concerns op) (ComesFor (state_of a.tree) (held_roots a) op None) (ComesFor (state_of a.tree) (held_roots a) op offered) a.tree b.tree (λ d is. is) (λ r q none. absurd none) none)
+      (subst (λ (s : State). Reads (Asks s (held_roots a) offered) NoneEnds s.objects b.tree.caches c.tree.caches) first.tree.state
+      (subst (λ (r : Roots). ReadsFor r (Concerns op) (ComesFor (state_of b.tree) r op offered) b.tree c.tree) (held_still a b op None first) second))
 
 pub keeps_ranked_on : (a b c : Ranked) (op : Op) (told : Option Refusal) → KeepsRanked a b op None → KeepsRanked b c op told → KeepsRanked a c op told
 keeps_ranked_on a b c op told first second = record {
   tree = keeps_on a.tree b.tree c.tree told first.tree second.tree;
   roots = second.roots ∙ first.roots;
   exports = second.exports ∙ first.exports;
-  reads = with_offer a b c op first told second.reads;
+  reads = (second.reads.0, second.reads.1, reads_after a b c op first second.reads.0 second.reads.2);
 }
 
 -- places that lack at the rank that holds a leaf lacked there before

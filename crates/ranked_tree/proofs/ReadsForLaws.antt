@@ -34,7 +34,7 @@ asks_change old roots change sound may held r q is =
     (named_by (state_of old) sound roots change (shape_of (shown_tree (state_of old)) old.covers change may) may held r q is)
 
 -- the number that a change puts, if it puts one
-pub number_put : Option (Spot × Inode) → Option Ino
+abbrev pub number_put : Option (Spot × Inode) → Option Ino
 number_put None = None
 number_put (Some put) = Some put.1.ino
 

@@ -109,10 +109,9 @@ abbrev pub ComesFor : TreeState → Roots → Op → Option Ino → ℕ → Leaf
 ComesFor tree roots op None rank leaf = ⊥
 ComesFor tree roots op (Some ino) rank leaf = ComesIn tree roots (shape op) ino rank leaf
 
--- a call that is answered with no change makes no directory; one that is refused may have been offered a number
+-- a number may have been offered for it, but where nothing is refused, and nothing changed, there was none
 abbrev pub WithOffer : (told : Option Refusal) → (Of : Option Ino → Type 0) → Type 0
-WithOffer None Of = Of None
-WithOffer (Some reason) Of = (number : Option Ino) × Of number
+WithOffer told Of = (offered : Option Ino) × (told ≡ None → offered ≡ None) × Of offered
 
 -- a leaf is the most recently used of the rank that holds it
 abbrev pub IsNewestHeld : TreeState → Roots → CacheMap → Leaf → Type 0
