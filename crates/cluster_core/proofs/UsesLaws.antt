@@ -63,9 +63,9 @@ module _ (tree new : TreeState) (roots : Roots) where
   replied_uses op before after inboxes now pins pins_now known sessions place past past_now rank said (Err reason) request rest h reads = unready_uses op before after reason (subst IsOfFragments (sym h.named) tt) (reads.0, λ none. reads.1 refl, reads.2)
 
 -- what a grant read that is refused behind its reads
-pub waits_told : (tree : TreeState) (roots : Roots) (before after : CacheMap) (reason : Refusal) (waiting : Option Request) → UsesWaiting tree roots before after None waiting → UsesWaiting tree roots before after (Some reason) waiting
-waits_told tree roots before after reason None uses = uses
-waits_told tree roots before after reason (Some request) uses = (uses.0, λ none. uses.1 refl, uses.2)
+pub waits_told : (tree : TreeState) (roots : Roots) (before after : CacheMap) (told : Option Refusal) (waiting : Option Request) → UsesWaiting tree roots before after None waiting → UsesWaiting tree roots before after told waiting
+waits_told tree roots before after told None uses = uses
+waits_told tree roots before after told (Some request) uses = (uses.0, λ none. uses.1 refl, uses.2)
 
 -- a request isn't made ready for a reason of the tree
 pub unmade_of : (MayRefuse : Refusal → Type 0) → ((reason : Refusal) → MayRefuse reason → IsOfFragments reason) → (outcome : Outcome) (offered : Option Ino) (reason : Refusal) → WhyUnmade MayRefuse outcome offered reason → IsOfFragments reason
