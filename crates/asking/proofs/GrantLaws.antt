@@ -1,6 +1,7 @@
 -- What a grant gives, and those of all ranks one after the other.
 use Rattle.asking.proofs.Common.{None, KeepsButGrants, Opening, Option, Answer, Bool, Contains, Core, Entry, Err, Frozen, Grant, Grants, GrantsEach, GrantsFirst, GrantsOf, GrantsRequest, GrantsSo, GrantsThem, GrantsWaiting, IsAuthority, IsFrozenAt, IsGranted, IsSound, KeepsUnclean, Leaf, List, MatchBool, NoInodes, NoMemory, NotAuthority, NothingToEvict, Ok, Op, Pin, Rank, ReadsOp, Refusal, RefusesGrant, Request, Result, Some, State, Steps, StoreFault, TreeMayRefuse, UsesStep, WhyNotGranted, ap, arith, false, first_waiting, grant_of, held_roots, inl, inr, is_for, is_pin, left_without, length, list_any, nat_lt, refl, subst, sym, true, with_grants, would_change, ℕ, ◌+◌, ◌<◌, ◌∙◌, ◌≡◌, ◌≢◌, ◌⊎◌}
 use Rattle.std.proofs.lemmas.Bool.{cases_lt, lt-ltb}
+use Rattle.std.specs.Result.{result_err}
 use Rattle.cluster_core.specs.Uses.{UsesWaiting}
 use Rattle.asking.proofs.LiveLaws.{change_ruled, is_one_of_16, is_rank}
 use Rattle.asking.proofs.PinLaws.{grants_have, grants_keep, grants_without}
@@ -11,22 +12,22 @@ module _ (old new : Core) (past now : List Entry) (rank : Rank) (client tid : �
   abbrev Done : Result Answer Refusal → Type 0
   Done result = GrantsRequest old.state new.state past now (TreeMayRefuse old new) rank client tid request.op result
 
-  abbrev Used : Type 0
-  Used = ReadsOp old.state.tree (held_roots old.state) request.op old.caches new.caches
+  abbrev Used : Result Answer Refusal → Type 0
+  Used result = ReadsOp old.state.tree (held_roots old.state) request.op (result_err result) old.caches new.caches
 
   -- either the rank isn't there, or the request was looked at
   abbrev Looked : Result Answer Refusal → Type 0
-  Looked result = (Done result × Used) ⊎ ((nat_lt rank.0 (length old.state.inboxes) ≡ false) × (result ≡ Err NotAuthority) × (new ≡ old))
+  Looked result = (Done result × Used result) ⊎ ((nat_lt rank.0 (length old.state.inboxes) ≡ false) × (result ≡ Err NotAuthority) × (new ≡ old))
 
   looked : (result : Result Answer Refusal) → Steps old new past now result (Grant rank client tid) → UsesStep old new result (Grant rank client tid) → Looked result
   looked result steps uses = go (nat_lt rank.0 (length old.state.inboxes)) refl steps.does uses
     where
       go : (b : Bool) → nat_lt rank.0 (length old.state.inboxes) ≡ b
           → MatchBool b (GrantsWaiting old.state new.state past now (TreeMayRefuse old new) rank client tid result) ((result ≡ Err NotAuthority) × (new ≡ old) × (now ≡ past))
-          → MatchBool b (UsesWaiting old.state.tree (held_roots old.state) old.caches new.caches (first_waiting client tid old.state.inboxes)) (new.caches ≡ old.caches) → Looked result
+          → MatchBool b (UsesWaiting old.state.tree (held_roots old.state) old.caches new.caches (result_err result) (first_waiting client tid old.state.inboxes)) (new.caches ≡ old.caches) → Looked result
       go true e done used = inl (
         subst (GrantsFirst old.state new.state past now (TreeMayRefuse old new) rank client tid result) waits done,
-        subst (UsesWaiting old.state.tree (held_roots old.state) old.caches new.caches) waits used,
+        subst (UsesWaiting old.state.tree (held_roots old.state) old.caches new.caches (result_err result)) waits used,
       )
       go false e none same = inr (e, none.0, none.1)
 
@@ -34,7 +35,7 @@ module _ (old new : Core) (past now : List Entry) (rank : Rank) (client tid : �
   pub granted : (answer : Answer) → Steps old new past now (Ok answer) (Grant rank client tid) → UsesStep old new (Ok answer) (Grant rank client tid) → GrantsOf old new rank client tid request.op (Ok tt)
   granted answer steps uses = go (looked (Ok answer) steps uses)
     where
-      of : Grants old.state new.state past now rank client tid request.op answer → Used → GrantsOf old new rank client tid request.op (Ok tt)
+      of : Grants old.state new.state past now rank client tid request.op answer → Used (Ok answer) → GrantsOf old new rank client tid request.op (Ok tt)
       of h used =
           let pins : new.state.pins ≡ with_grants old.state.pins h.leaves client tid = ap (λ (s : State). s.pins) h.left in (
             record {
@@ -47,7 +48,7 @@ module _ (old new : Core) (past now : List Entry) (rank : Rank) (client tid : �
                     thawed = h.thawed leaf its;
                     granted = ap (list_any (is_pin (grant_of leaf client tid))) pins ∙ grants_have h.leaves old.state.pins client tid leaf ((h.exactly leaf).1 its);
                   };
-              unclean = reads_keep old new request.op steps.capacity used;
+              unclean = reads_keep old new request.op None steps.capacity used;
             },
             λ leaf stands. ap (list_any (is_pin (grant_of leaf client tid))) pins ∙ grants_keep h.leaves old.state.pins client tid (grant_of leaf client tid) stands,
           )
@@ -71,8 +72,8 @@ module _ (old new : Core) (past now : List Entry) (rank : Rank) (client tid : �
   pub foreign : (opening : Opening) → IsSound opening past old → (reason : Refusal) → reason ≡ NotAuthority → Steps old new past now (Err reason) (Grant rank client tid) → UsesStep old new (Err reason) (Grant rank client tid) → GrantsOf old new rank client tid request.op (Ok tt)
   foreign opening sound reason is steps uses = go (looked (Err reason) steps uses)
     where
-      of : RefusesGrant old.state new.state past now (TreeMayRefuse old new) rank request.op reason → Used → GrantsOf old new rank client tid request.op (Ok tt)
-      of (inl (named, none), left) used = nothing left.left (reads_keep old new request.op steps.capacity used) none
+      of : RefusesGrant old.state new.state past now (TreeMayRefuse old new) rank request.op reason → Used (Err reason) → GrantsOf old new rank client tid request.op (Ok tt)
+      of (inl (named, none), left) used = nothing left.left (reads_keep old new request.op (Some reason) steps.capacity used) none
       of (inr (inl (named, some)), left) used = let clash : NotAuthority ≡ Frozen = sym is ∙ named in absurd cc
       of (inr (inr (inl named)), left) used = let clash : NotAuthority ≡ NoMemory = sym is ∙ named in absurd cc
       of (inr (inr (inr (other, inl named))), left) used = let clash : NotAuthority ≡ NoMemory = sym is ∙ named in absurd cc

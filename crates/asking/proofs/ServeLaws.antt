@@ -1,5 +1,5 @@
 -- What a step that serves gives, by its answer.
-use Rattle.asking.proofs.Common.{Answer, Bool, false, Goes, IsOfServe, Replied, Served, ServesTo, Waits, told_of, Core, Deferred, Entry, Err, Forwarded, IsApplied, IsDeferred, IsForwarded, IsRepeated, KeepsUnclean, List, MatchBool, NoneEnds, Ok, Op, Rank, ReadsOp, Receipt, Refusal, RefusesRequest, Reply, Request, Result, Serve, ServesInbox, ServesRequest, Steps, TreeMayRefuse, UsesRequest, UsesStep, ap, held_roots, refl, ◌∙◌, inl, inr, length, lt-ltb, nat_lt, reads_unclean_of, subst, sym, told_as, true, waiting_at, ◌∷◌, ◌≡◌, ◌⊎◌}
+use Rattle.asking.proofs.Common.{Answer, Bool, false, Goes, IsOfServe, Replied, Served, ServesTo, Waits, told_of, Core, Deferred, Entry, Err, Forwarded, IsApplied, IsDeferred, IsForwarded, IsRepeated, KeepsUnclean, List, MatchBool, NoneEnds, Ok, Op, Rank, ReadsOp, Receipt, Refusal, RefusesRequest, Reply, Request, Result, Serve, ServesInbox, ServesRequest, Steps, TreeMayRefuse, UsesRequest, UsesStep, ap, held_roots, refl, ◌∙◌, inl, inr, length, lt-ltb, nat_lt, reads_unclean_of, subst, sym, told_as, true, waiting_at, ◌∷◌, ◌≡◌, ◌⊎◌, None, Option, Some, ℕ}
 use Rattle.cluster_core.specs.Uses.{Asks as AsksFor, UsesFront}
 use Rattle.cluster_core.specs.Serve.{entry_of}
 use Rattle.dentry_cache.specs.CacheMap.{CacheMap, unclean_of}
@@ -13,9 +13,9 @@ done_there true Done Else e done = done
 done_there false Done Else e none = let clash : true ≡ false = sym e in absurd cc
 
 -- reads leave what isn't clean
-pub reads_keep : (old new : Core) (op : Op) → new.caches.cap ≡ old.caches.cap → ReadsOp old.state.tree (held_roots old.state) op old.caches new.caches → KeepsUnclean old new
-reads_keep old new op cap reads = record {
-  unclean = reads_unclean_of (AsksFor old.state.tree (held_roots old.state) op) NoneEnds old.state.tree.objects old.caches new.caches reads;
+pub reads_keep : (old new : Core) (op : Op) (told : Option Refusal) → new.caches.cap ≡ old.caches.cap → ReadsOp old.state.tree (held_roots old.state) op told old.caches new.caches → KeepsUnclean old new
+reads_keep old new op told cap reads = record {
+  unclean = reads_unclean_of (AsksFor old.state.tree (held_roots old.state) op reads.0) NoneEnds old.state.tree.objects old.caches new.caches reads.2;
   cap = cap;
 }
 
@@ -56,7 +56,7 @@ module _ (old new : Core) (past now : List Entry) (rank : Rank) (request : Reque
       go (inr (inr (inr h))) = let clash : Forwarded master ≡ Deferred = h.answered in absurd cc
 
   pub waits_on : Steps old new past now (Ok Deferred) (Serve rank) → UsesStep old new (Ok Deferred) (Serve rank) → IsDeferred old.state new.state past now rank request rest Deferred × KeepsUnclean old new
-  waits_on steps uses = (go (its (Ok Deferred) steps), reads_keep old new request.op steps.capacity (used (Ok Deferred) uses))
+  waits_on steps uses = (go (its (Ok Deferred) steps), reads_keep old new request.op None steps.capacity (used (Ok Deferred) uses))
     where
       go : Gives Deferred → IsDeferred old.state new.state past now rank request rest Deferred
       go (inl h) = let clash : Deferred ≡ Reply _ _ _ _ _ = h.answered in absurd cc

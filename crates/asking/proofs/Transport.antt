@@ -1,5 +1,5 @@
 -- What holds of a state holds of one that differs from it in what waits and in grants alone.
-use Rattle.asking.proofs.Common.{ChangesFrozen, Core, Inboxes, IsFrozenAt, IsHolder, KeepsButGrants, KeepsUnclean, LacksPlaces, Leaf, List, Op, Pin, Rank, State, WaitsAlone, WhyNotGranted, Request, Refusal, ap, arith, inl, inr, left_without, is_for, subst, sym, with_waiting, ℕ, ◌<◌, ◌∙◌, ◌∷◌, [], ◌≡◌}
+use Rattle.asking.proofs.Common.{ChangesFrozen, Core, Inboxes, IsFrozenAt, IsHolder, IsLive, KeepsButGrants, KeepsUnclean, LacksPlaces, Leaf, List, Op, Pin, Rank, State, WaitsAlone, WhyNotGranted, Request, Refusal, ap, arith, inl, inr, left_without, is_for, subst, sym, with_waiting, ℕ, ◌<◌, ◌∙◌, ◌∷◌, [], ◌≡◌}
 use Rattle.std.specs.FinMap as map
 
 -- a state is another but for its inboxes and grants
@@ -50,9 +50,10 @@ unclean_then old mid now one other = record { unclean = λ rank. other.unclean r
 module _ (old mid : Core) (alike : IsAlike old.state mid.state) (kept : KeepsUnclean old mid) where
   -- places lack later where they lacked before
   pub lacks_places : (op : Op) → LacksPlaces mid op → LacksPlaces old op
-  lacks_places op (leaf, concerns, (rank, holds, lacks)) = (
+  lacks_places op (leaf, concerns, live, (rank, holds, lacks)) = (
     leaf,
     concerns,
+    back old.state mid.state alike (λ (s : State). IsLive s.tree.homes s.tree.covers leaf) live,
     (rank, back old.state mid.state alike (λ (s : State). IsHolder s leaf rank) holds, omega (arith, lacks, kept.cap, ap (λ m. map.len m) (kept.unclean rank.0))),
   )
 

@@ -8,6 +8,7 @@ use Rattle.mds_types.specs.declared.operations.Op.{Op}
 use Rattle.mds_types.specs.declared.requests.Request.{Request}
 use Rattle.mds_types.specs.declared.refusals.Refusal.{Refusal}
 use Rattle.mds_types.specs.declared.refusals.Refusal.TheVariants.{NoInodes, NoMemory, NotAuthority, NothingToEvict, InboxFull, StoreFault}
+use Rattle.inode_table.specs.Dirs.{IsLive}
 use Rattle.namespace_ops.specs.Changes.{Concerns}
 use Rattle.subtree_map.specs.Authority.{Leaf}
 use Rattle.mdcache.specs.Frags.{LacksFor}
@@ -32,11 +33,11 @@ ArrivesAt old new past now rank request (Ok answer) =
 ArrivesAt old new past now rank request (Err reason) =
     (reason ≡ InboxFull) × (length (waiting_at old.inboxes rank) ≡ 1024) × IsLeft old new past now
 
--- some leaf of a directory that the operation concerns has a holder in whose cache fewer than two places are free or
--- can become free
+-- some live leaf of a directory that the operation concerns has a holder in whose cache fewer than two places are free
+-- or can become free
 abbrev pub LacksPlaces : Core → Op → Type 0
 LacksPlaces core op =
-    (leaf : Leaf) × Concerns op leaf.0.0
+    (leaf : Leaf) × Concerns op leaf.0.0 × IsLive core.state.tree.homes core.state.tree.covers leaf
     × ((rank : Rank) × IsHolder core.state leaf rank × LacksPlacesAt 2 core rank)
 
 -- why the tree refuses an operation in a step: memory is refused, the store's count of faults rose in the step, a rank

@@ -1,11 +1,15 @@
 -- How each event uses the caches.
 use Rattle.std.specs.Prelude.{◌≡◌, ◌⊎◌, ℕ, true, false, nat_lt, MatchBool, List, [], ◌∷◌, length, Option, Some, None, Result, Ok, Err, OnOk, OnErr, IfErr}
 use Rattle.std.specs.FinMap as map
+use Rattle.std.specs.Result.{result_err}
+use Rattle.mds_types.specs.declared.ids.Ino.{Ino}
 use Rattle.mds_types.specs.declared.ids.Rank.{Rank}
 use Rattle.mds_types.specs.declared.operations.Op.{Op}
 use Rattle.mds_types.specs.declared.requests.Request.{Request}
 use Rattle.mds_types.specs.declared.refusals.Refusal.{Refusal}
 use Rattle.mds_types.specs.declared.refusals.Refusal.TheVariants.{InboxFull, Trimmed}
+use Rattle.mds_types.specs.declared.replies.Reply.{Reply as Replied}
+use Rattle.mds_types.specs.declared.replies.Reply.TheVariants.{Done, Entries, Entry, Errno, Target}
 use Rattle.dentry_cache.specs.Cache.{Leaf}
 use Rattle.dentry_cache.specs.CacheMap.{CacheMap, evicted}
 use Rattle.dentry_cache.specs.Came.{Came, NoneEnds}
@@ -25,45 +29,66 @@ use Rattle.cluster_core.specs.declared.events.Event.TheVariants.{Serve, Grant, S
 use Rattle.cluster_core.specs.Administers.{HoldsInside}
 use Rattle.cluster_core.specs.Master.{IsAuthority, IsHolder}
 use Rattle.cluster_core.specs.State.{Core, held_roots}
-use Rattle.ranked_tree.specs.Held.{AsksFor, CameAt, IsFamilyOf, IsGone, IsMergedHere, UsesAt}
+use Rattle.ranked_tree.specs.Held.{AsksFor, CameAt, ComesFor, IsFamilyOf, IsGone, IsMergedHere, UsesAt, WithOffer}
 use Rattle.ranked_tree.specs.Importing.{HandsRegion, LeavesCaches}
 use Rattle.ranked_tree.specs.Sending.{IsInRegionOf}
 
--- the leaves that an operation asks for at a rank: leaves of directories that it concerns, at the rank that holds them,
--- and the first leaf of a directory that it makes
-abbrev pub Asks : TreeState → Roots → Op → ℕ → Leaf → Type 0
-Asks tree roots op = AsksFor tree roots (Concerns op)
+-- the leaves that an operation asks for at a rank: live leaves of directories that it concerns, at the rank that holds
+-- them; and the first leaf of the directory that it makes, with the number that is offered, at the rank that holds the
+-- leaf of its name
+abbrev pub Asks : TreeState → Roots → Op → (offered : Option Ino) → ℕ → Leaf → Type 0
+Asks tree roots op offered = AsksFor tree roots (Concerns op) (ComesFor tree roots op offered)
 
--- the caches changed at most by reading such leaves, each of which moved to the front of its rank's order of use
-abbrev pub ReadsOp : TreeState → Roots → Op → (before after : CacheMap) → Type 0
-ReadsOp tree roots op before after = Reads (Asks tree roots op) NoneEnds tree.objects before after
+-- the caches changed at most by reading such leaves, each of which moved to the front of its rank's order of use; if
+-- nothing is refused, no directory is made
+abbrev pub ReadsOp : TreeState → Roots → Op → (told : Option Refusal) → (before after : CacheMap) → Type 0
+ReadsOp tree roots op told before after =
+    WithOffer told (λ (offered : Option Ino). Reads (Asks tree roots op offered) NoneEnds tree.objects before after)
 
 -- the caches changed at most by reading such leaves, then using and changing them, and by dropping the leaves of
 -- directories that no longer exist
-abbrev pub ChangesOp : (tree new : TreeState) → Roots → Op → (before after : CacheMap) → Type 0
-ChangesOp tree new roots op before after =
-    (mid : CacheMap) × ReadsOp tree roots op before mid × Came (Asks tree roots op) (IsGone (shown_tree new)) mid after
+abbrev pub ChangesOp : (tree new : TreeState) → Roots → Op → (offered : Option Ino) → (before after : CacheMap) → Type 0
+ChangesOp tree new roots op offered before after =
+    (mid : CacheMap) × Reads (Asks tree roots op offered) NoneEnds tree.objects before mid
+    × Came (Asks tree roots op offered) (IsGone (shown_tree new)) mid after
+
+-- the number of the inode in a reply: of a reply to `mkdir` it is that of the directory that was made
+abbrev pub number_told : Replied → Option Ino
+number_told (Entry inode) = Some inode.ino
+number_told (Entries list more) = None
+number_told (Target target) = None
+number_told Done = None
+number_told (Errno number) = None
+
+abbrev pub number_answered : Answer → Option Ino
+number_answered (Reply client tid place first reply) = number_told reply
+number_answered Deferred = None
+number_answered (Forwarded master) = None
+number_answered Nothing = None
+number_answered (Job job) = None
+number_answered (Sent bytes) = None
 
 -- the caches after serving a request. If it is applied, the leaves that its operation asks for may be read and changed.
 -- If it lacks a grant or is refused, they may be read. If it is answered again, forwarded or too old, nothing is read
 abbrev pub UsesRequest : (tree new : TreeState) → Roots → Op → (before after : CacheMap) → Result Answer Refusal
     → Type 0
 UsesRequest tree new roots op before after (Ok (Reply client tid place true reply)) =
-    ChangesOp tree new roots op before after
+    ChangesOp tree new roots op (number_told reply) before after
 UsesRequest tree new roots op before after (Ok (Reply client tid place false reply)) = after ≡ before
-UsesRequest tree new roots op before after (Ok Deferred) = ReadsOp tree roots op before after
+UsesRequest tree new roots op before after (Ok Deferred) = ReadsOp tree roots op None before after
 UsesRequest tree new roots op before after (Ok (Forwarded master)) = after ≡ before
 UsesRequest tree new roots op before after (Ok Nothing) = after ≡ before
 UsesRequest tree new roots op before after (Ok (Job job)) = after ≡ before
 UsesRequest tree new roots op before after (Ok (Sent bytes)) = after ≡ before
 UsesRequest tree new roots op before after (Err reason) =
-    ReadsOp tree roots op before after × ((reason ≡ Trimmed) ⊎ (reason ≡ InboxFull) → after ≡ before)
+    ReadsOp tree roots op (Some reason) before after × ((reason ≡ Trimmed) ⊎ (reason ≡ InboxFull) → after ≡ before)
 
 -- the caches after applying a request that is new and at its master
 abbrev pub UsesApplied : (tree new : TreeState) → Roots → Op → (before after : CacheMap) → Result Answer Refusal
     → Type 0
-UsesApplied tree new roots op before after (Ok answer) = ChangesOp tree new roots op before after
-UsesApplied tree new roots op before after (Err reason) = ReadsOp tree roots op before after × IsOfFragments reason
+UsesApplied tree new roots op before after (Ok answer) = ChangesOp tree new roots op (number_answered answer) before after
+UsesApplied tree new roots op before after (Err reason) =
+    ReadsOp tree roots op (Some reason) before after × IsOfFragments reason
 
 -- the caches after serving the request at the front; if none waits, they are the same
 abbrev pub UsesFront : (tree new : TreeState) → Roots → (before after : CacheMap) → Result Answer Refusal → List Request
@@ -73,9 +98,10 @@ UsesFront tree new roots before after result (request ∷ rest) =
     UsesRequest tree new roots request.op before after result
 
 -- a grant may read the leaves that the operation of the first waiting copy asks for
-abbrev pub UsesWaiting : TreeState → Roots → (before after : CacheMap) → Option Request → Type 0
-UsesWaiting tree roots before after None = after ≡ before
-UsesWaiting tree roots before after (Some request) = ReadsOp tree roots request.op before after
+abbrev pub UsesWaiting : TreeState → Roots → (before after : CacheMap) → (told : Option Refusal) → Option Request
+    → Type 0
+UsesWaiting tree roots before after told None = after ≡ before
+UsesWaiting tree roots before after told (Some request) = ReadsOp tree roots request.op told before after
 
 -- no leaf was asked for
 abbrev pub AsksNone : (old new : Core) → Type 0
@@ -100,7 +126,7 @@ UsesStep old new result (Serve rank) =
     (waiting_at old.state.inboxes rank))
 UsesStep old new result (Grant rank client tid) =
     UsesThere old new rank (UsesWaiting old.state.tree (held_roots old.state) old.caches new.caches
-    (first_waiting client tid old.state.inboxes))
+    (result_err result) (first_waiting client tid old.state.inboxes))
 UsesStep old new result (Split rank dir f nb) =
     UsesThere old new rank (CameAt (IsAuthority old.state (dir, f)) (IsFamilyOf dir f nb) old.caches new.caches)
 UsesStep old new result (Merge rank dir f) =

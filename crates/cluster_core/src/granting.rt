@@ -38,7 +38,8 @@ pub(crate) fn grant_first<S: Store + Drop>(
         (state_of (tree_state tree.new.tree) tree.new.subtrees.roots tree.new.exports numbers waiting.new.inboxes
         waiting.new.pins sessions) past past (MayRefuse tree.old tree.new) rank client tid result }
     ensures uses { UsesWaiting (tree_state tree.old.tree)
-        (held_roots tree.old) tree.old.tree.caches tree.new.tree.caches (first_waiting client tid waiting.old.inboxes) }
+        (held_roots tree.old) tree.old.tree.caches tree.new.tree.caches (result_err result)
+        (first_waiting client tid waiting.old.inboxes) }
     ensures same { tree_state tree.new.tree ≡ tree_state tree.old.tree }
     ensures roots { tree.new.subtrees.roots ≡ tree.old.subtrees.roots }
     ensures exports { tree.new.exports ≡ tree.old.exports }

@@ -151,7 +151,7 @@ module _ (old new : Core) (sound : IsSound (state_of old)) (begun : 0 < old.next
           let named = made_named _ _ kept old old before place spot.name (Some inode) there (inl (refl, refl)) in
           let grown = made_dir _ _ old (with_entry now place.dir) first (made_tables _ _ kept old now named old.homes counts old.pins (λ leaf live. live))
           (kept_named old place spot.name (Some inode) there (first_leaf inode.ino) kept_place rank).1 (home_at (dentry_at spot)) rooms
-          (first_live (state_of old) leaves (dentry_at spot) inode.ino come fits) (grown_live (state_of old) leaves (dentry_at spot) inode.ino come fits) not_live (inr (refl, refl)) in
+          (first_live (state_of old) leaves (dentry_at spot) inode.ino come fits) (grown_live (state_of old) leaves (dentry_at spot) inode.ino come fits) not_live (inr (kinded, (refl, refl))) in
           let with_leaf : State = record (with_directory (state_of now) (dentry_at spot) inode.ino) { counts = map.insert counts inode.ino.0 0 } in
           subst (IsDone (adds spot inode) old) (sym (is ∙ (λ i. with_dir (with_entry now place.dir) first (record { parent = spot.at.dir; name = name i }) rooms)))
           (done (adds spot inode) old (with_dir (with_entry now place.dir) first (home_at (dentry_at spot)) rooms) sound (λ new. fits) may (

@@ -3,6 +3,7 @@ use Rattle.std.specs.Prelude.{◌≡◌, ◌<◌, ◌⊎◌, ℕ, Bool, true, fa
 use Rattle.std.specs.FinMap as map
 use Rattle.mds_types.specs.declared.ids.Rank.{Rank}
 use Rattle.mds_types.specs.Leaf.{leaf_of}
+use Rattle.mds_types.specs.Tree.{is_dir_kind}
 use Rattle.dentry_cache.specs.Cache.{IsThere, Leaf}
 use Rattle.dentry_cache.specs.CacheMap.{CacheMap, IsFreeFor, has_place, here}
 use Rattle.dentry_cache.specs.Came.{IsThat}
@@ -40,7 +41,8 @@ pub record MayHoldEach (caches : CacheMap) (change : Change) : Type 0 where
 abbrev pub IsNamedBy : Option Spot → Option (Spot × Inode) → Bool → ℕ → Leaf → Type 0
 IsNamedBy None None comes r q = ⊥
 IsNamedBy None (Some put) true r q =
-    IsThat put.0.at.rank.0 (leaf_of put.0.at) r q ⊎ IsThat put.0.at.rank.0 (first_leaf put.1.ino) r q
+    IsThat put.0.at.rank.0 (leaf_of put.0.at) r q
+    ⊎ ((is_dir_kind put.1.kind ≡ true) × IsThat put.0.at.rank.0 (first_leaf put.1.ino) r q)
 IsNamedBy None (Some put) false r q = IsThat put.0.at.rank.0 (leaf_of put.0.at) r q
 IsNamedBy (Some spot) None comes r q = IsThat spot.at.rank.0 (leaf_of spot.at) r q
 IsNamedBy (Some spot) (Some put) comes r q =

@@ -123,7 +123,7 @@ pub use Rattle.objstore.specs.Objects.{Objects, faults_in, faults_told}
 pub use Rattle.objstore.specs.Omap.{Omap, key_cmp}
 pub use Rattle.ranked_tree.specs.Changing.{ChangesHeld, FollowsChange, IsChangedHeld}
 pub use Rattle.ranked_tree.specs.Exported.{AreThawed, EndsInside, EndsRegion, IsDivided, IsFrozenIn, StandSoundly, held_in}
-pub use Rattle.ranked_tree.specs.Held.{AreHeld, AreHeldAt, AsksFor, CameAt, IsFamilyOf, IsGone, IsMergedHere, IsOwned, LacksPlacesAsked, LacksPlacesDir, LacksPlacesFor, LacksPlacesInside, NamesBy, NamesDir, ReadsDir, ReadsFor, UsedAt, UsesAt}
+pub use Rattle.ranked_tree.specs.Held.{AreHeld, AreHeldAt, AsksFor, CameAt, ComesAt, ComesFor, ComesIn, ComesWith, IsFamilyOf, IsGone, IsMergedHere, IsOwned, LacksPlacesAsked, LacksPlacesDir, LacksPlacesFor, LacksPlacesInside, NamesBy, NamesDir, NoneComes, ReadsDir, ReadsFor, UsedAt, UsesAt, WithOffer}
 pub use Rattle.ranked_tree.specs.Importing.{ComeToImporter, HandsRegion, Imports, IsRenewed, IsSpelledBy, MayNotImport, TakesRegion, imported_unsaved}
 pub use Rattle.ranked_tree.specs.Mounted.{AreTopRoots}
 pub use Rattle.ranked_tree.specs.Ranked.{IsFrozenLeaf, KeepsRanked, MayRefuse, Ranked, held_roots, new_roots}

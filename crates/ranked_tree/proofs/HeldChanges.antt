@@ -1,5 +1,5 @@
 -- What a change of the tree leaves: each cached fragment is at its leaf's authority then; what it makes of the caches.
-use Rattle.ranked_tree.proofs.Common.{AreHeld, AreHeldAt, AsksFor, Came, Change, Core, Covers, EndsWith, Fragment, HasLeaf, Home, Homes, IfSome, Ino, Inode, IsChangedBy, IsChangedHeld, IsGone, IsLive, IsNamedIn, IsOwned, IsPick, IsSome, IsSound, IsSoundCore, IsTable, IsThat, KeepsAuthorities, Leaf, List, Makes, MayChange, MayCome, MayGo, NamesDir, None, NoneEnds, Option, Rank, Roots, Rules, Shape, Some, Spot, State, [], adds, ap, came_then, came_weaker, dentry_at, dir_or_not, false, first_leaf, hash_of, home_at, inherited, inl, inr, is_dir_kind, is_known, is_some, known_is, leaf_of, leaves_of, may_come, may_go, move, none-some, none_unless, only_leaf, or_whole, reads_came, reads_weaker, refl, remove, replaces, root_fragment, rows_but, same_Some, shape_of, shown_in, shown_tree, state_of, still_known, subst, sym, true, with_home, ℕ, ⊎_elim, ◌==◌, ◌||◌, ◌∙◌, ◌∷◌, ◌≡◌, ◌⊎◌}
+use Rattle.ranked_tree.proofs.Common.{AreHeld, AreHeldAt, AsksFor, Came, Change, ComesWith, Core, Covers, EndsWith, Fragment, HasLeaf, Home, Homes, IfSome, Ino, Inode, IsChangedBy, IsChangedHeld, IsGone, IsLive, IsNamedIn, IsOwned, IsPick, IsSome, IsSound, IsSoundCore, IsTable, IsThat, KeepsAuthorities, Leaf, List, Makes, MayChange, MayCome, MayGo, NamesDir, None, NoneEnds, Option, Rank, Roots, Rules, Shape, Some, Spot, State, [], adds, ap, came_then, came_weaker, dentry_at, dir_or_not, false, first_leaf, hash_of, home_at, inherited, inl, inr, is_dir_kind, is_known, is_some, known_is, leaf_of, leaves_of, may_come, may_go, move, none-some, none_unless, only_leaf, or_whole, reads_came, reads_weaker, refl, remove, replaces, root_fragment, rows_but, same_Some, shape_of, shown_in, shown_tree, state_of, still_known, subst, sym, true, with_home, ℕ, ⊎_elim, ◌==◌, ◌||◌, ◌∙◌, ◌∷◌, ◌≡◌, ◌⊎◌}
 use Rattle.std.specs.FinMap as map
 use Rattle.sorted_map.proofs.NatKeys as nat
 use Rattle.ranked_tree.proofs.ChangedTables.{added_tables, grown_tables, moved_tables, removed_tables}
@@ -52,7 +52,7 @@ module _ (old new : Core) (before after : Roots) (owned : IsOwned old before) (n
       ⊎_elim (λ its. keeps q (record { 0 = r }) its.1 live its.2)
       (λ come.
       coming r q live come.0 come.1 (subst (MayChange (shown_in old) old.covers) come.2 may) (subst (λ (c : Change). Makes c (state_of old) (state_of new)) come.2 makes) (follow come.0 come.1 come.2)
-      (subst (AreHeldAt (state_of old) before) come.2 holders) come.3)
+      (subst (AreHeldAt (state_of old) before) come.2 holders) come.4)
       (named_by (state_of old) sound before change (shape_of (shown_in old) old.covers change may) may holders r q is))
     where
       -- a leaf that the change names is used at its authority, that of a directory that comes too
@@ -93,6 +93,6 @@ changed_held old new roots change sound now may holders is = record {
   made = is.made;
   right = is.right;
   between = is.between;
-  read = reads_weaker (IsNamedIn change) NoneEnds (AsksFor (state_of old) roots (NamesDir change)) NoneEnds (asks_change old roots change sound may holders) (λ r q none. none) old.objects old.caches is.between is.read;
-  came = came_weaker (IsNamedIn change) (EndsWith change) (AsksFor (state_of old) roots (NamesDir change)) (IsGone (shown_tree (state_of new))) (asks_change old roots change sound may holders) (λ r q ends. sym (known_is (shown_tree (state_of new)) new.homes now.tabled q.0.0) ∙ gone_unknown change (shape_of (shown_tree (state_of old)) old.covers change may) (state_of old) (state_of new) sound may is.made q.0 ends) is.between new.caches is.came;
+  read = reads_weaker (IsNamedIn change) NoneEnds (AsksFor (state_of old) roots (NamesDir change) (ComesWith (state_of old) roots change)) NoneEnds (asks_change old roots change sound may holders) (λ r q none. none) old.objects old.caches is.between is.read;
+  came = came_weaker (IsNamedIn change) (EndsWith change) (AsksFor (state_of old) roots (NamesDir change) (ComesWith (state_of old) roots change)) (IsGone (shown_tree (state_of new))) (asks_change old roots change sound may holders) (λ r q ends. sym (known_is (shown_tree (state_of new)) new.homes now.tabled q.0.0) ∙ gone_unknown change (shape_of (shown_tree (state_of old)) old.covers change may) (state_of old) (state_of new) sound may is.made q.0 ends) is.between new.caches is.came;
 }

@@ -1,5 +1,5 @@
 -- The leaves that a change names, and the ranks that hold them.
-use Rattle.ranked_tree.proofs.Common.{AreHeld, AreHeldAt, AreOneRank, CacheMap, Change, Fragment, HoldsAt, Home, Homes, IfSome, IfSome_then, Ino, Inode, IsLive, IsNamedIn, IsPick, IsSound, IsSpot, IsThat, Leaf, MayChange, MayCome, MayHoldEach, NamesDir, Option, Roots, Rules, Shape, Some, Spot, add, adds, ap, dentry_at, false, first_leaf, hash_of, inl, inr, is_directory, is_known, is_some, known_is, leaf_of, leaves_of, may_come, move, one_authority, refl, remove, set, shape_of, shown_tree, subst, sym, true, ℕ, ⊎_elim, ◌||◌, ◌∙◌, ◌≡◌, ◌⊎◌, State}
+use Rattle.ranked_tree.proofs.Common.{AreHeld, AreHeldAt, AreOneRank, CacheMap, Change, Fragment, HoldsAt, Home, Homes, IfSome, IfSome_then, Ino, Inode, IsLive, IsNamedIn, IsPick, IsSound, IsSpot, IsThat, Leaf, MayChange, MayCome, MayHoldEach, NamesDir, Option, Roots, Rules, Shape, Some, Spot, add, adds, ap, dentry_at, false, first_leaf, hash_of, inl, inr, is_dir_kind, is_directory, is_known, is_some, known_is, leaf_of, leaves_of, may_come, move, one_authority, refl, remove, set, shape_of, shown_tree, subst, sym, true, ℕ, ⊎_elim, ◌||◌, ◌∙◌, ◌≡◌, ◌⊎◌, State}
 use Rattle.sorted_map.proofs.NatKeys as nat
 use Rattle.ranked_tree.proofs.HeldLaws.{is_that, may_hold}
 
@@ -20,7 +20,7 @@ module _ (s : State) (sound : IsSound s) where
   spot_live spot is pick = pick_live spot.at.dir (hash_of spot.name) spot.at.frag is pick
 
   -- the leaves that a change names are live
-  named_live : (change : Change) → Shape change → MayChange (shown_tree s) s.covers change → IfSome change.takes (λ (spot : Spot). IsLive s.homes s.covers (leaf_of spot.at)) × IfSome change.puts (λ (put : Spot × Inode). IsLive s.homes s.covers (leaf_of put.0.at))
+  pub named_live : (change : Change) → Shape change → MayChange (shown_tree s) s.covers change → IfSome change.takes (λ (spot : Spot). IsLive s.homes s.covers (leaf_of spot.at)) × IfSome change.puts (λ (put : Spot × Inode). IsLive s.homes s.covers (leaf_of put.0.at))
   named_live _ (add spot inode) may = (tt, spot_live spot may.takes.parent may.carries.put)
   named_live _ (set spot inode) may = (tt, spot_live spot (sound.tabled.whole.parents spot.at.dir.0 spot.name may.takes.before may.takes.stands) may.carries.put)
   named_live _ (remove spot went) may = (spot_live spot (sound.tabled.whole.parents spot.at.dir.0 spot.name may.takes.inode may.takes.stands) may.carries.taken, tt)
@@ -44,9 +44,9 @@ module _ (s : State) (sound : IsSound s) where
     at_spot r q spot live holds that = (ap (λ (l : Leaf). l.0.0) that.1, subst (IsLive s.homes s.covers) (sym that.1) live, is_that s roots (leaf_of spot.at) spot.at.rank holds r q that)
 
     pub named_by : (change : Change) → Shape change → MayChange (shown_tree s) s.covers change → AreHeldAt s roots change → (r : ℕ) (q : Leaf) → IsNamedIn change r q
-        → (NamesDir change q.0.0 × IsLive s.homes s.covers q × Rules s roots q (record { 0 = r })) ⊎ ((spot : Spot) × (inode : Inode) × (change ≡ adds spot inode) × IsThat spot.at.rank.0 (first_leaf inode.ino) r q)
+        → (NamesDir change q.0.0 × IsLive s.homes s.covers q × Rules s roots q (record { 0 = r })) ⊎ ((spot : Spot) × (inode : Inode) × (change ≡ adds spot inode) × (is_dir_kind inode.kind ≡ true) × IsThat spot.at.rank.0 (first_leaf inode.ino) r q)
     named_by _ (add spot inode) able at r q (inl that) = inl (at_spot r q spot (named_live _ (add spot inode) able).1 at.put that)
-    named_by _ (add spot inode) able at r q (inr that) = inr (spot, inode, refl, that)
+    named_by _ (add spot inode) able at r q (inr first) = inr (spot, inode, refl, first.0, first.1)
     named_by _ (set spot inode) able at r q that = inl (at_spot r q spot (named_live _ (set spot inode) able).1 at.put that)
     named_by _ (remove spot went) able at r q that = inl (at_spot r q spot (named_live _ (remove spot went) able).0 at.taken that)
     named_by _ (move source target inode went) able at r q (inl that) = let its = at_spot r q source (named_live _ (move source target inode went) able).0 at.taken that in inl (inl its.0, its.1, its.2)
@@ -54,7 +54,7 @@ module _ (s : State) (sound : IsSound s) where
 
     pub named_held : (change : Change) → MayChange (shown_tree s) s.covers change → AreHeldAt s roots change → (r : ℕ) (q : Leaf) → IsNamedIn change r q → IsLive s.homes s.covers q → Rules s roots q (record { 0 = r })
     named_held change may held r q is live =
-        ⊎_elim (λ its. its.2) (λ new. absurd (new_is_not_live new.0 new.1 (subst (MayChange (shown_tree s) s.covers) new.2 may) (subst (IsLive s.homes s.covers) new.3.1 live))) (named_by change (shape_of (shown_tree s) s.covers change may) may held r q is)
+        ⊎_elim (λ its. its.2) (λ new. absurd (new_is_not_live new.0 new.1 (subst (MayChange (shown_tree s) s.covers) new.2 may) (subst (IsLive s.homes s.covers) new.4.1 live))) (named_by change (shape_of (shown_tree s) s.covers change may) may held r q is)
 
     -- the ranks may hold the leaves; one leaf has one holder
     pub hold_each : (caches : CacheMap) → AreHeld s caches roots → (change : Change) → AreHeldAt s roots change → MayHoldEach caches change

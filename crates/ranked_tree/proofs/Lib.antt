@@ -14,6 +14,7 @@ pub mod HolderLaws
 pub mod ImportLaws
 pub mod InsideLaws
 pub mod Kept
+pub mod LaterLaws
 pub mod MountedRoots
 pub mod NewLaws
 pub mod ReadsForLaws

@@ -3,13 +3,17 @@
 use Rattle.std.specs.Prelude.{◌≡◌, ◌⊎◌, ◌<◌, ◌^◌, ℕ, true, false, length, map as each, Option, Some, None}
 use Rattle.std.specs.List.{Contains}
 use Rattle.std.specs.FinMap as map
+use Rattle.mds_types.specs.declared.dentries.Dentry.{Dentry}
 use Rattle.mds_types.specs.declared.ids.Ino.{Ino}
 use Rattle.mds_types.specs.declared.ids.Rank.{Rank}
-use Rattle.mds_types.specs.Frag.{Fragment, child_of, root_fragment}
-use Rattle.mds_types.specs.Tree.{Tree, is_directory}
+use Rattle.mds_types.specs.declared.operations.Op.{Op}
+use Rattle.mds_types.specs.declared.refusals.Refusal.{Refusal}
+use Rattle.mds_types.specs.Frag.{Fragment, child_of}
+use Rattle.mds_types.specs.Shape.{Shape, Looks, Lists, Makes, Sets, Unlinks, Removes, Moves, shape}
+use Rattle.mds_types.specs.Tree.{Tree, is_dir_kind, is_directory}
 use Rattle.fragtree.specs.FragTree.{leaves_inside}
 use Rattle.inode_table.specs.Dirs.{Covers, IsLive, is_known, leaves_of}
-use Rattle.namespace_ops.specs.Changes.{LieHeld, in_directory}
+use Rattle.namespace_ops.specs.Changes.{IsLeafAt, LieHeld, adds, dentry_at, in_directory}
 use Rattle.mds_types.specs.declared.inodes.Inode.{Inode}
 use Rattle.namespace_ops.specs.declared.plans.Change.{Change}
 use Rattle.namespace_ops.specs.declared.plans.Spot.{Spot}
@@ -19,6 +23,7 @@ use Rattle.dentry_cache.specs.Reads.{Reads}
 use Rattle.subtree_map.specs.Authority.{Leaf, Roots}
 use Rattle.subtree_map.specs.Changes.{is_inside}
 use Rattle.mdcache.specs.CacheReads.{IsNewestOf}
+use Rattle.mdcache.specs.Changes.{first_leaf}
 use Rattle.mdcache.specs.Core.{Core, IsSoundCore, LacksPlacesAt, state_of}
 use Rattle.mdcache.specs.State.{State as TreeState}
 use Rattle.ranked_tree.specs.Subtrees.{AreRoots, HoldsAt, Rules}
@@ -45,15 +50,16 @@ AreHeldAt tree roots change = LieHeld (HoldsAt tree roots) change
 
 -- ---- what reads make of the caches
 
--- a leaf of a directory that is asked for, at the rank that holds it; or the first of a directory that comes
-abbrev pub AsksFor : TreeState → Roots → (Asked : ℕ → Type 0) → ℕ → Leaf → Type 0
-AsksFor tree roots Asked rank leaf =
-    (Asked leaf.0.0 × Rules tree roots leaf (record { 0 = rank }))
-    ⊎ ((is_known tree.homes leaf.0.0 ≡ false) × (leaf.1 ≡ root_fragment))
+-- a live leaf of a directory that is asked for, at the rank that holds it; or one that a new directory gets
+abbrev pub AsksFor : TreeState → Roots → (Asked : ℕ → Type 0) → (Comes : ℕ → Leaf → Type 0) → ℕ → Leaf → Type 0
+AsksFor tree roots Asked Comes rank leaf =
+    (Asked leaf.0.0 × IsLive tree.homes tree.covers leaf × Rules tree roots leaf (record { 0 = rank }))
+    ⊎ Comes rank leaf
 
 -- these leaves were read at most
-abbrev pub ReadsFor : Roots → (Asked : ℕ → Type 0) → (old new : Core) → Type 0
-ReadsFor roots Asked old new = Reads (AsksFor (state_of old) roots Asked) NoneEnds old.objects old.caches new.caches
+abbrev pub ReadsFor : Roots → (Asked : ℕ → Type 0) → (Comes : ℕ → Leaf → Type 0) → (old new : Core) → Type 0
+ReadsFor roots Asked Comes old new =
+    Reads (AsksFor (state_of old) roots Asked Comes) NoneEnds old.objects old.caches new.caches
 
 -- the directories of the dentries that a change names
 abbrev pub NamesBy : Option Spot → Option (Spot × Inode) → ℕ → Type 0
@@ -65,9 +71,47 @@ NamesBy (Some spot) (Some put) d = (d ≡ spot.at.dir.0) ⊎ (d ≡ put.0.at.dir
 abbrev pub NamesDir : Change → ℕ → Type 0
 NamesDir change d = NamesBy change.takes change.puts d
 
+-- no directory is made
+abbrev pub NoneComes : ℕ → Leaf → Type 0
+NoneComes rank leaf = ⊥
+
 -- so of one directory
 abbrev pub ReadsDir : Roots → Ino → (old new : Core) → Type 0
-ReadsDir roots dir old new = ReadsFor roots (λ (d : ℕ). d ≡ dir.0) old new
+ReadsDir roots dir old new = ReadsFor roots (λ (d : ℕ). d ≡ dir.0) NoneComes old new
+
+-- the first leaf of a directory that isn't there yet, at the rank that holds the leaf of its name
+pub record ComesAt (tree : TreeState) (roots : Roots) (dentry : Dentry) (ino : Ino) (rank : ℕ)
+    (leaf : Leaf) : Type 0 where
+  pub first : leaf ≡ first_leaf ino
+  pub unknown : is_known tree.homes ino.0 ≡ false
+  pub frag : Fragment
+  pub picked : IsLeafAt tree.covers dentry frag
+  pub held : Rules tree roots (dentry.dir, frag) (record { 0 = rank })
+
+-- that of the directory that a change makes
+abbrev pub ComesWith : TreeState → Roots → Change → ℕ → Leaf → Type 0
+ComesWith tree roots change rank leaf =
+    (spot : Spot) × (inode : Inode) × (change ≡ adds spot inode) × (is_dir_kind inode.kind ≡ true)
+    × ComesAt tree roots (dentry_at spot) inode.ino rank leaf
+
+-- that of the directory that an operation makes, by the number that is offered
+abbrev pub ComesIn : TreeState → Roots → Shape → Ino → ℕ → Leaf → Type 0
+ComesIn tree roots (Looks dentry answer) ino rank leaf = ⊥
+ComesIn tree roots (Lists dir after max) ino rank leaf = ⊥
+ComesIn tree roots (Makes dentry kind mode birth) ino rank leaf =
+    (is_dir_kind kind ≡ true) × ComesAt tree roots dentry ino rank leaf
+ComesIn tree roots (Sets dentry alteration) ino rank leaf = ⊥
+ComesIn tree roots (Unlinks dentry) ino rank leaf = ⊥
+ComesIn tree roots (Removes dentry) ino rank leaf = ⊥
+ComesIn tree roots (Moves from to) ino rank leaf = ⊥
+
+abbrev pub ComesFor : TreeState → Roots → Op → Option Ino → ℕ → Leaf → Type 0
+ComesFor tree roots op None rank leaf = ⊥
+ComesFor tree roots op (Some ino) rank leaf = ComesIn tree roots (shape op) ino rank leaf
+
+-- a number may have been offered for it, but where nothing is refused, and nothing changed, there was none
+abbrev pub WithOffer : (told : Option Refusal) → (Of : Option Ino → Type 0) → Type 0
+WithOffer told Of = (offered : Option Ino) × (told ≡ None → offered ≡ None) × Of offered
 
 -- a leaf is the most recently used of the rank that holds it
 abbrev pub IsNewestHeld : TreeState → Roots → CacheMap → Leaf → Type 0
@@ -86,9 +130,10 @@ abbrev pub LacksPlacesFor : ℕ → Core → Roots → Leaf → Type 0
 LacksPlacesFor count core roots leaf =
     (rank : Rank) × Rules (state_of core) roots leaf rank × LacksPlacesAt count core rank
 
--- so it is with a leaf of a directory that is asked for
+-- so it is with a live leaf of a directory that is asked for
 abbrev pub LacksPlacesAsked : ℕ → Core → Roots → (Asked : ℕ → Type 0) → Type 0
-LacksPlacesAsked count core roots Asked = (leaf : Leaf) × Asked leaf.0.0 × LacksPlacesFor count core roots leaf
+LacksPlacesAsked count core roots Asked =
+    (leaf : Leaf) × Asked leaf.0.0 × IsLive core.homes core.covers leaf × LacksPlacesFor count core roots leaf
 
 -- so of one directory
 abbrev pub LacksPlacesDir : ℕ → Core → Roots → Ino → Type 0

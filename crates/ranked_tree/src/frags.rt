@@ -25,19 +25,21 @@ use std::alloc::Global;
 impl<S: Store + Drop> Frags for RankedTree<S> {
     ghost use Rattle.std.specs.Prelude.{refl};
     ghost use Rattle.dirfrag_codec.specs.EntryRecord.{IsRankNumber};
-    ghost use Rattle.std.proofs.Common.{◌∙◌, ap, subst, sym};
+    ghost use Rattle.std.proofs.Common.{inl, ◌∙◌, ap, subst, sym, ⊎_elim};
     ghost use Rattle.dentry_cache.specs.Came.{NoneEnds};
     ghost use Rattle.dentry_cache.specs.Reads.{Reads};
     ghost use Rattle.dentry_cache.specs.Reads.Reads.{stays};
-    ghost use Rattle.dentry_cache.proofs.ReadsLaws.{reads_then};
+    ghost use Rattle.dentry_cache.proofs.ReadsLaws.{reads_then, reads_weaker};
+    ghost use Rattle.inode_table.specs.Dirs.{IsLive};
     ghost use Rattle.namespace_ops.specs.Changes.{Concerns};
     ghost use Rattle.subtree_map.specs.Authority.{Leaf, Roots};
     ghost use Rattle.mdcache.specs.State.{State as TreeState};
     ghost use Rattle.mdcache.proofs.FragsLaws.{keeps_itself, keeps_on, keeps_refused, lacked_asked, refused_later, refused_so, untouched_by, untouched_on};
-    ghost use Rattle.ranked_tree.specs.Held.{AsksFor, LacksPlacesAsked, ReadsFor};
+    ghost use Rattle.ranked_tree.specs.Held.{AsksFor, ComesFor, LacksPlacesAsked, ReadsFor};
     ghost use Rattle.ranked_tree.specs.Subtrees.{HoldsAt, Rules};
+    ghost use Rattle.mds_types.specs.declared.ids.Ino.{Ino as Number};
     ghost use Rattle.mds_types.specs.declared.ids.Rank.{Rank as RankNumber};
-    ghost use Rattle.std.specs.Prelude.{None, ℕ};
+    ghost use Rattle.std.specs.Prelude.{None, Option, ℕ};
     ghost use Rattle.mds_types.specs.declared.refusals.Refusal.TheVariants.{NoInodes, NoMemory};
     ghost use Rattle.mdcache.specs.Made.{IsUntouched};
     ghost use Rattle.mdcache.specs.Shown.{shown_tree};
@@ -61,15 +63,22 @@ impl<S: Store + Drop> Frags for RankedTree<S> {
 
     ghost MayRefuse = { λ a b op reason. MayRefuse a b op reason };
 
-    ghost follows_self = { λ a op. record { tree = keeps_itself a.tree; roots = refl; exports = refl; reads = stays } };
+    ghost follows_self = { λ a op. record { tree = keeps_itself a.tree; roots = refl; exports = refl; reads = (None, λ none. refl, stays) } };
 
     ghost follows_on = { λ a b c op told p q. record {
       tree = keeps_on a.tree b.tree c.tree told p.tree q.tree;
       roots = q.roots ∙ p.roots;
       exports = q.exports ∙ p.exports;
-      reads = reads_then (AsksFor (state_of a.tree) (held_roots a) (Concerns op)) NoneEnds a.tree.objects a.tree.caches b.tree.caches c.tree.caches p.reads
-          (subst (λ (s : TreeState). Reads (AsksFor s (held_roots a) (Concerns op)) NoneEnds s.objects b.tree.caches c.tree.caches) p.tree.state
-          (subst (λ (r : Roots). ReadsFor r (Concerns op) b.tree c.tree) (ap (λ (r : Roots). holding b.exports r) p.roots ∙ ap (λ (e : Standing). holding e a.subtrees.roots) p.exports) q.reads));
+      reads = (
+        q.reads.0,
+        q.reads.1,
+        reads_then (AsksFor (state_of a.tree) (held_roots a) (Concerns op) (ComesFor (state_of a.tree) (held_roots a) op q.reads.0)) NoneEnds a.tree.objects a.tree.caches b.tree.caches c.tree.caches
+            (reads_weaker (AsksFor (state_of a.tree) (held_roots a) (Concerns op) (ComesFor (state_of a.tree) (held_roots a) op None)) NoneEnds (AsksFor (state_of a.tree) (held_roots a) (Concerns op) (ComesFor (state_of a.tree) (held_roots a) op q.reads.0)) NoneEnds
+            (λ r l. ⊎_elim (λ held. inl held) (λ none. absurd none)) (λ r l none. none) a.tree.objects a.tree.caches b.tree.caches
+            (subst (λ (n : Option Number). ReadsFor (held_roots a) (Concerns op) (ComesFor (state_of a.tree) (held_roots a) op n) a.tree b.tree) (p.reads.1 refl) p.reads.2))
+            (subst (λ (s : TreeState). Reads (AsksFor s (held_roots a) (Concerns op) (ComesFor s (held_roots a) op q.reads.0)) NoneEnds s.objects b.tree.caches c.tree.caches) p.tree.state
+            (subst (λ (r : Roots). ReadsFor r (Concerns op) (ComesFor (state_of b.tree) r op q.reads.0) b.tree c.tree) (ap (λ (r : Roots). holding b.exports r) p.roots ∙ ap (λ (e : Standing). holding e a.subtrees.roots) p.exports) q.reads.2)),
+      );
     } };
 
     ghost held_on = { λ a b op told at kept. (
@@ -82,9 +91,9 @@ impl<S: Store + Drop> Frags for RankedTree<S> {
         (subst (λ (r : Roots). IsFrozen b.exports r a.tree.homes a.tree.covers leaf) kept.roots
         (subst (λ (s : TreeState). IsFrozen b.exports b.subtrees.roots s.homes s.covers leaf) kept.tree.state frozen))) };
 
-    ghost follows_memory = { λ a b op p. record { tree = keeps_refused a.tree b.tree NoMemory refl p.tree; roots = p.roots; exports = p.exports; reads = p.reads } };
+    ghost follows_memory = { λ a b op p. record { tree = keeps_refused a.tree b.tree NoMemory refl p.tree; roots = p.roots; exports = p.exports; reads = (p.reads.0, λ none. p.reads.1 refl, p.reads.2) } };
 
-    ghost follows_number = { λ a b op p. record { tree = keeps_refused a.tree b.tree NoInodes refl p.tree; roots = p.roots; exports = p.exports; reads = p.reads } };
+    ghost follows_number = { λ a b op p. record { tree = keeps_refused a.tree b.tree NoInodes refl p.tree; roots = p.roots; exports = p.exports; reads = (p.reads.0, λ none. p.reads.1 refl, p.reads.2) } };
 
     ghost unchanged_by = { λ a b op leaf told kept. untouched_by a.tree b.tree leaf told kept.tree };
 
@@ -98,8 +107,8 @@ impl<S: Store + Drop> Frags for RankedTree<S> {
         a.tree b.tree c.tree op reason
         (λ lacks.
         let now = subst (λ (r : Roots). LacksPlacesAsked 2 b.tree r (Concerns op)) (ap (λ (r : Roots). holding b.exports r) kept.roots ∙ ap (λ (e : Standing). holding e a.subtrees.roots) kept.exports) lacks in
-        let before = lacked_asked 2 (λ (s : TreeState) (d : ℕ). Concerns op d) (λ (s : TreeState) (leaf : Leaf) (rank : RankNumber). Rules s (held_roots a) leaf rank) a.tree b.tree kept.tree (now.0, now.1, now.2.0, now.2.1, now.2.2) in
-        (before.0, before.1, (before.2, before.3, before.4)))
+        let before = lacked_asked 2 (λ (s : TreeState) (d : ℕ). Concerns op d) (λ (s : TreeState) (leaf : Leaf) (rank : RankNumber). IsLive s.homes s.covers leaf × Rules s (held_roots a) leaf rank) a.tree b.tree kept.tree (now.0, now.1, now.3.0, (now.2, now.3.1), now.3.2) in
+        (before.0, before.1, before.3.0, (before.2, before.3.1, before.4)))
         kept.tree because };
 
     ghost refused_for = { λ a b op reason because. refused_so

@@ -1,7 +1,8 @@
 -- What applying made of the parts, said of the cluster's state.
-use Rattle.cluster_core.proofs.Common.{AppliesRequest, AtFront, Contains, Entry, IsNewTo, Table, ap, length, ◌+◌, ◌++◌, ◌∙◌, Err, HoldsAt, IsNoted, IsRankNumber, IsSessionOf, Leaf, LeavesRefused, List, MayApply, Ok, Request, Some, Supply, UsesApplied, changed_fragments, fragments_are, held_roots, may_change, number_or, numbered_so, offer, refl, shown_tree, state_of, step, subst, sym, table, waiting_at, ℕ}
+use Rattle.cluster_core.proofs.Common.{AppliesRequest, AtFront, ChangesOp, Contains, Entry, IsNewTo, Table, ap, length, ◌+◌, ◌++◌, ◌∙◌, Err, HoldsAt, Ino, IsNoted, IsRankNumber, IsSessionOf, Leaf, LeavesRefused, List, MayApply, Ok, Option, Request, Some, Supply, UsesApplied, changed_fragments, fragments_are, held_roots, may_change, number_or, numbered_so, offer, refl, shown_tree, state_of, step, subst, sym, table, waiting_at, ℕ}
 use Rattle.mdcache.specs.Core.{state_of as tree_state}
 use Rattle.ranked_tree.specs.Ranked.{MayRefuse}
+use Rattle.cluster_core.specs.Uses.{number_answered, number_told}
 use Rattle.cluster_core.proofs.Carried.{carried}
 use Rattle.cluster_core.proofs.FrontLaws.{both_front, by_front, in_front}
 use Rattle.cluster_core.proofs.MadeReady.{WhyUnmade, unmade, unprepared}
@@ -190,12 +191,16 @@ returns-in-Ok-make_change-clause-uses g c =
     let inboxes = c.args.waiting.now.inboxes in
     let pins = c.args.waiting.now.pins in
     let sessions = table c.args.given.now.sessions in
-    let past = c.args.history.now.items in
     let asked = c.args.asked.now in
     let rank = asked.rank in
     let w = waiting_at inboxes rank in
-    in_front (λ (q : Request) (rest : List Request). MayApply f r e pins numbers c.args.given.now.sessions asked c.args.change q) (λ (q : Request) (rest : List Request). UsesApplied f (tree_state c.make_change.new.self.tree) (held_roots c.args.tree.now) q.op c.args.tree.now.tree.caches c.make_change.new.self.tree.caches (Ok c.commit.result)) w
-    (λ q rest h. changed_uses c.args.tree.now.tree c.make_change.new.self.tree (held_roots c.args.tree.now) q.op c.args.change h.checked.one_of c.in-Ok-make_change.ensures.changed) c.requires.may
+    let prepared = c.in-Ok.prepared in
+    both_front (λ (q : Request) (rest : List Request). MayApply f r e pins numbers c.args.given.now.sessions asked c.args.change q)
+    (λ (q : Request) (rest : List Request). IsNoted inboxes c.commit.new.waiting.inboxes pins c.commit.new.waiting.pins (table c.prepare.new.given.sessions) (table c.commit.new.given.sessions) ((table c.prepare.new.given.sessions).forgotten + length c.prepare.new.history.items) c.prepare.new.history.items c.commit.new.history.items rank prepared.number prepared.went prepared.reply prepared.answer q rest c.commit.result)
+    (λ (q : Request) (rest : List Request). UsesApplied f (tree_state c.make_change.new.self.tree) (held_roots c.args.tree.now) q.op c.args.tree.now.tree.caches c.make_change.new.self.tree.caches (Ok c.commit.result)) w
+    (λ q rest h noted.
+    subst (λ (n : Option Ino). ChangesOp f (tree_state c.make_change.new.self.tree) (held_roots c.args.tree.now) q.op n c.args.tree.now.tree.caches c.make_change.new.self.tree.caches) (sym (ap number_answered noted.answered ∙ ap number_told c.in-Ok.ensures.prepared.copied))
+    (changed_uses c.args.tree.now.tree c.make_change.new.self.tree (held_roots c.args.tree.now) q.op c.args.change h.checked.one_of c.in-Ok-make_change.ensures.changed)) c.requires.may c.commit.ensures.noted
 
 pub returns-in-Err-clause-uses : goal.returns-in-Err-clause-uses
 returns-in-Err-clause-uses g c =

@@ -1,4 +1,4 @@
-use Rattle.ranked_tree.proofs.Common.{AsksFor, Covers, EndsWith, Err, FollowChange, Fragment, IfSome, Ino, IsNamedIn, IsSome, LacksToMake, List, LoseDirectory, NamesDir, NoneEnds, Option, Roots, Some, ap, came_cap, came_ranks, faults_in, held_in, inl, inr, keeps_itself, keeps_refused, leaves_of, length, reads_keeps, reads_none, reads_state, reads_weaker, refl, rules, shape_of, shown_tree, state_of, subst, sym, ◌∙◌, ◌≡◌, ◌≤◌}
+use Rattle.ranked_tree.proofs.Common.{AsksFor, ComesWith, Covers, EndsWith, Err, FollowChange, Fragment, IfSome, Ino, IsNamedIn, IsSome, LacksToMake, List, LoseDirectory, NamesDir, NoneEnds, Option, Roots, Some, ap, came_cap, came_ranks, faults_in, held_in, inl, inr, keeps_itself, keeps_refused, leaves_of, length, reads_keeps, reads_none, reads_state, reads_weaker, refl, rules, shape_of, shown_tree, state_of, subst, sym, ◌∙◌, ◌≡◌, ◌≤◌}
 use Rattle.ranked_tree.proofs.AskLaws.{told_change}
 use Rattle.ranked_tree.proofs.HeldChanges.{changed_held, whole_came}
 use Rattle.ranked_tree.proofs.DividedLaws.{change_divided}
@@ -22,10 +22,11 @@ change-requires-clause-holds g c = hold_each (state_of c.args.tree.now) c.requir
 pub returns-in-Err-change-clause-changed : goal.returns-in-Err-change-clause-changed
 returns-in-Err-change-clause-changed g c = (
   reads_keeps (IsNamedIn c.args.change) NoneEnds c.args.tree.now c.change.new.self c.in-Err-change.ensures.changed.0 (Some c.in-Err-change.refusal) c.in-Err-change.ensures.counted,
-  reads_weaker (IsNamedIn c.args.change) NoneEnds (AsksFor (state_of c.args.tree.now) (held_in c.args.regions.now) (NamesDir c.args.change)) NoneEnds
+  reads_weaker (IsNamedIn c.args.change) NoneEnds
+      (AsksFor (state_of c.args.tree.now) (held_in c.args.regions.now) (NamesDir c.args.change) (ComesWith (state_of c.args.tree.now) (held_in c.args.regions.now) c.args.change)) NoneEnds
       (asks_change c.args.tree.now (held_in c.args.regions.now) c.args.change c.requires.divided.owned.sound.sound c.requires.may c.requires.held) (λ r q none. none) c.args.tree.now.objects c.args.tree.now.caches c.change.new.self.caches
       c.in-Err-change.ensures.changed.0.caches,
-  inr (told_change (Unit {0}) (LacksToMake c.args.change (state_of c.args.tree.now)) (Err c.in-Err-change.refusal) c.args.tree.now (held_in c.args.regions.now) c.args.change c.change.new.self.faults c.requires.held c.in-Err-change.ensures.changed.1),
+  inr (told_change (Unit {0}) (LacksToMake c.args.change (state_of c.args.tree.now)) (Err c.in-Err-change.refusal) c.args.tree.now (held_in c.args.regions.now) c.args.change c.change.new.self.faults c.requires.divided.owned.sound.sound c.requires.may c.requires.held c.in-Err-change.ensures.changed.1),
 )
 
 pub returns-in-Err-change-clause-count : goal.returns-in-Err-change-clause-count

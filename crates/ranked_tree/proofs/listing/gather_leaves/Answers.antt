@@ -1,6 +1,6 @@
 use Rattle.ranked_tree.proofs.Common.{Covers, Fragment, HasLeaf, List, None, ap, rows_gathered, held_in, keeps_itself, keeps_on, leaf_more, leaves_of, names_of, option_copied, refl, subst, unclean, ℕ, ◌∙◌, ◌≡◌, State, reads_none}
 use Rattle.ranked_tree.proofs.WalkLaws.{first_within, rest_within}
-use Rattle.ranked_tree.proofs.AskLaws.{live_still}
+use Rattle.ranked_tree.proofs.AskLaws.{live_still, refused_before}
 use Rattle.ranked_tree.proofs.ReadsForLaws.{reads_on}
 use Rattle.ranked_tree.proofs.listing.gather_leaves.Goals as goal
 
@@ -15,7 +15,7 @@ loop-frag-preserved g c =
     let told : names_of (unclean c.loop-frag.tree.caches) c.loop-frag.tree.objects (c.args.dir, c.in-Some.frag) ≡ names_of (unclean c.args.tree.now.caches) c.args.tree.now.objects (c.args.dir, c.in-Some.frag) = ap (λ (s : State). names_of s.unsaved s.objects (c.args.dir, c.in-Some.frag)) inv.kept.state in
     record {
       kept = keeps_on c.args.tree.now c.loop-frag.tree c.gather_leaf.new.tree None inv.kept c.in-Ok.ensures.kept;
-      reads = reads_on (held_in c.args.regions.now) (λ (d : ℕ). d ≡ c.args.dir.0) c.args.tree.now c.loop-frag.tree c.gather_leaf.new.tree inv.kept inv.reads c.in-Ok.ensures.reads;
+      reads = reads_on (held_in c.args.regions.now) c.args.dir c.args.tree.now c.loop-frag.tree c.gather_leaf.new.tree inv.kept inv.reads c.in-Ok.ensures.reads;
       owned = c.in-Ok.ensures.owned;
       within = rest_within c.in-Some.frag c.next.new.self c.loop-frag.frag-iterator (leaves_of c.args.tree.now.covers c.args.dir.0) steps inv.within;
       most = c.in-Ok.ensures.most ∙ inv.most;
@@ -26,7 +26,12 @@ loop-frag-preserved g c =
     }
 
 pub returns-in-Err-clause-reads : goal.returns-in-Err-clause-reads
-returns-in-Err-clause-reads g c = reads_on (held_in c.args.regions.now) (λ (d : ℕ). d ≡ c.args.dir.0) c.args.tree.now c.loop-frag.tree c.gather_leaf.new.tree c.loop-frag.invariant.kept c.loop-frag.invariant.reads c.gather_leaf.ensures.reads
+returns-in-Err-clause-reads g c = reads_on (held_in c.args.regions.now) c.args.dir c.args.tree.now c.loop-frag.tree c.gather_leaf.new.tree c.loop-frag.invariant.kept c.loop-frag.invariant.reads c.gather_leaf.ensures.reads
+
+pub returns-in-Err-clause-refused : goal.returns-in-Err-clause-refused
+returns-in-Err-clause-refused g c =
+    refused_before c.args.tree.now c.loop-frag.tree (held_in c.args.regions.now) (c.args.dir, c.in-Some.frag) c.gather_leaf.new.tree.faults c.in-Err.refusal c.loop-frag.invariant.kept
+    (record { known = c.requires.known; stands = first_within c.in-Some.frag c.next.new.self c.loop-frag.frag-iterator (leaves_of c.args.tree.now.covers c.args.dir.0) c.in-Some.ensures.steps c.loop-frag.invariant.within }) c.in-Err.ensures.refused
 
 pub loop-frag-init : goal.loop-frag-init
 loop-frag-init g c =

@@ -1,6 +1,6 @@
-use Rattle.mdcache.proofs.Common.{Core, IsSound, List, MayCome, State, adds, ap, dentry_at, inl, inr, known_is, may_come, subst, sym, ℕ, ⊎_elim, ◌<◌, ◌∙◌}
+use Rattle.mdcache.proofs.Common.{Core, IsSound, List, MayCome, NoneEnds, State, adds, ap, dentry_at, inl, inr, known_is, may_come, subst, sym, ℕ, ⊎_elim, ◌<◌, ◌∙◌}
 use Rattle.mdcache.proofs.ChangesMade.{after_reads, directory_done, may_still, new_fits}
-use Rattle.mdcache.proofs.CoreLaws.{not_ready_wider, one_left, reads_state, there_after}
+use Rattle.mdcache.proofs.CoreLaws.{not_ready_wider, one_left, reads_core_wider, reads_state, there_after}
 use Rattle.mdcache.proofs.PrepareLaws.{dir_live, new_recordable}
 use Rattle.mdcache.proofs.mdcache.MdCache.add_directory.Goals as goal
 
@@ -36,7 +36,7 @@ returns-in-Ok g c =
     c.args.spot ready.ready.room c.args.inode ready.only ready.place.place c.requires.directory c.has_parts.ensures.number (there_after _ _ _ _ _ reads c.requires.holds.put.there) (may_still _ _ _ _ reads c.requires.may)
     c.come_directory.new.self.room c.in-Ok.name ready.named c.come_directory.ensures in
     record {
-      changed = after_reads _ _ _ _ reads done;
+      changed = after_reads _ _ _ _ (reads_core_wider _ _ NoneEnds NoneEnds _ _ (λ r q. ⊎_elim inl (λ first. inr (c.requires.directory, first))) (λ r q no_end. no_end) reads) done;
       numbers = ⊎_elim (one_left _ _ (ap (λ (k : Core). k.next_version) reads.beside) ready.ready.number) (λ needs. one_left _ _ (ap (λ (k : Core). k.next_generation) reads.beside) ready.place.generation needs.1);
       sound = done.sound;
       counted = ap (λ (k : Core). k.faults) c.come_directory.ensures ∙ ready.counted;
@@ -44,6 +44,6 @@ returns-in-Ok g c =
 
 pub returns-in-Err-clause-changed : goal.returns-in-Err-clause-changed
 returns-in-Err-clause-changed g c = (
-  c.ready_directory.ensures.reads,
+  reads_core_wider _ _ NoneEnds NoneEnds _ _ (λ r q. ⊎_elim inl (λ first. inr (c.requires.directory, first))) (λ r q no_end. no_end) c.ready_directory.ensures.reads,
   not_ready_wider _ _ _ _ _ _ c.in-Err.refusal (⊎_elim inl (λ lacks. inr (c.requires.directory, lacks))) (⊎_elim inl (λ needs. inr needs.1)) (λ lacks. lacks) c.in-Err.ensures.refused,
 )
