@@ -1,6 +1,8 @@
 //! A store that can be told to keep its objects.
-ghost use Rattle.std.specs.Prelude.{◌≡◌, IfErr};
+ghost use Rattle.std.specs.Prelude.{◌≡◌, IfErr, IsTrue, List, OnOk};
+ghost use Rattle.keeping.specs.declared.rows.RowEdit.{RowEdit as Edit};
 
+use crate::rows::RowEdit;
 use crate::unkept::Unkept;
 use objstore::{MemStore, Store};
 
@@ -11,14 +13,22 @@ pub trait Keep: Store {
     /// Whether `keep` and `settle` may fail. Of a store that is nowhere else they never do.
     ghost may_fail: { Type 0 };
 
+    // What a `keep` of these edits that answers Ok makes of the store.
+    ghost Takes: { Self → List Edit → Self → Type 0 };
+
     /// The objects, to read.
     fn memory(&self) -> &MemStore
         ensures { result.now ≡ Self.Store.objects self.now };
 
-    /// Brings all that changed since the last call that answered Ok, as a whole or not at all. Whatever it answers, the
-    /// objects are as they were.
-    fn keep(&mut self) -> Result<(), Unkept>
+    /// Whether the store keeps rows beside its objects. One that keeps none ignores edits.
+    fn keeps_rows(&self) -> bool
+        ensures { IsTrue result → may_fail };
+
+    /// Writes all objects that changed since the last call that returned Ok, and makes these edits of the rows that the
+    /// store keeps beside them: all of it, or nothing. Whatever it returns, the objects are unchanged.
+    fn keep(&mut self, edits: &[RowEdit]) -> Result<(), Unkept>
         ensures objects { Self.Store.objects self.new ≡ Self.Store.objects self.old }
+        ensures taken { OnOk result (Takes self.old edits.now self.new) }
         ensures failed { IfErr result (λ _. may_fail) };
 
     /// Leaves what was kept whole in one place, as a database file whose log is empty. It brings nothing that `keep`
@@ -35,13 +45,19 @@ pub trait Keep: Store {
 impl Keep for MemStore {
     ghost may_fail = { ⊥ };
 
+    ghost Takes = { λ old _ new. new ≡ old };
+
     ghost faultless = { λ _ _. 0 };
 
     fn memory(&self) -> &MemStore {
         self
     }
 
-    fn keep(&mut self) -> Result<(), Unkept> {
+    fn keeps_rows(&self) -> bool {
+        false
+    }
+
+    fn keep(&mut self, _edits: &[RowEdit]) -> Result<(), Unkept> {
         Ok(())
     }
 

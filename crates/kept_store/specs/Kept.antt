@@ -1,14 +1,14 @@
 -- A store that is mirrored in tables, as contracts see it, and the law of every such store.
-use Rattle.std.specs.Prelude.{◌≡◌, IsTrue, List}
+use Rattle.std.specs.Prelude.{◌≡◌, ◌≤◌, IsTrue, List}
 use Rattle.objstore.specs.Objects.{Objects}
 use Rattle.sqlite_trees.specs.Tree.{Trees}
-use Rattle.sqlite_trees.specs.View.{View}
+use Rattle.sqlite_trees.specs.View.{IsClean, View, doubt}
 use Rattle.sqlite_trees.specs.declared.error.StoreError.{StoreError}
 use Rattle.sqlite_trees.specs.declared.error.StoreError.TheVariants.{OutOfMemory, Io, Corrupt, Full, Broken, Unstorable}
 use Rattle.keeping.specs.declared.unkept.Unkept.{Unkept}
 use Rattle.keeping.specs.declared.unkept.Unkept.TheVariants as told
-use Rattle.object_tables.specs.Noted.{Noted, has_key, has_name}
-use Rattle.object_tables.specs.declared.sessions.RowEdit.{RowEdit}
+use Rattle.object_tables.specs.Noted.{Noted, has_key, has_name, none_noted}
+use Rattle.keeping.specs.declared.rows.RowEdit.{RowEdit}
 use Rattle.object_tables.specs.Sessions.{HasSessionRows, SessionRows, edited}
 use Rattle.object_tables.specs.Spelled.{HasTables, HaveOwners, SpellsObjects, SpellsBut}
 
@@ -48,6 +48,16 @@ StoresRows recovers rows = (db : Trees) → recovers db → HasSessionRows db ro
 abbrev pub HasBoth : (Trees → Type 0) → Trees → Objects → List RowEdit → Type 0
 HasBoth before db objects edits =
     SpellsObjects db objects × ((rows : SessionRows) → StoresRows before rows → HasSessionRows db (edited edits rows))
+
+-- a store took edits: the tables have all objects, and, if the disk is honest, the rows that the edits make of those that
+-- were stored before
+pub record TakesEdits {T : Type 0} (view : T → View) (recovers : T → Trees → Type 0) (old : KeptObjects T)
+    (edits : List RowEdit) (new : KeptObjects T) : Type 0 where
+  pub kept : new.noted ≡ none_noted
+  pub objects : new.objects ≡ old.objects
+  pub rows : IsClean (view new.tables) → (rows : SessionRows) → StoresRows (recovers old.tables) rows
+      → StoresRows (recovers new.tables) (edited edits rows)
+  pub clean : doubt (view old.tables).is_clean ≤ doubt (view new.tables).is_clean
 
 -- an outcome of a crash is found: it spells the objects, and is all that a crash would leave of the tables now. So the
 -- session map is that of the outcome, too

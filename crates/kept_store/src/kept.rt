@@ -6,16 +6,14 @@ ghost use Rattle.object_tables.specs.Sessions.{SessionRows, edited};
 ghost use Rattle.object_tables.specs.Spelled.{SpellsObjects};
 ghost use Rattle.sqlite_trees.specs.Tree.{Trees as Rows};
 ghost use Rattle.sqlite_trees.specs.View.{IsClean, doubt};
-ghost use Rattle.kept_store.specs.Kept.{FindsOutcome, HasBoth, IsFreshMirror, IsMirrored, RecoversObjects, StoresRows};
+ghost use Rattle.kept_store.specs.Kept.{FindsOutcome, HasBoth, IsFreshMirror, IsMirrored, RecoversObjects, StoresRows, TakesEdits};
 ghost use Rattle.kept_store.specs.Kept.{unkept_of};
 
 use crate::noting::{note_object, note_write};
 use crate::settling::Settle;
-use keeping::{Keep, Unkept};
+use keeping::{Keep, RowEdit, Unkept};
 use mds_types::{Bytes, Refusal};
-use object_tables::{
-    Changes, ReadFault, RowEdit, has_tables, read_objects, read_session_rows, save,
-};
+use object_tables::{Changes, ReadFault, has_tables, read_objects, read_session_rows, save};
 use objstore::{MemStore, NamePage, Page, Pairs, Store, WriteOp};
 use sqlite_trees::error::StoreError;
 use sqlite_trees::store::{Reopen, Store as Trees};
@@ -92,25 +90,11 @@ impl<T: Trees + Drop> Kept<T> {
         self.changes.len()
     }
 
-    /// Writes all changes into the tables, in one transaction: `keep_with` of no edits.
-    pub fn keep(&mut self) -> Result<(), StoreError>
-        ensures kept { OnOk result (self.new.noted ≡ none_noted) }
-        ensures noted { OnErr result (self.new.noted ≡ self.old.noted) }
-        ensures objects { self.new.objects ≡ self.old.objects }
-        ensures rows { IsClean (T.Store.view self.new.tables) → (rows : SessionRows)
-            → StoresRows (T.Store.recovers self.old.tables) rows → StoresRows (T.Store.recovers self.new.tables) rows }
-        ensures crash { IsClean (T.Store.view self.new.tables) → (db : Rows) → T.Store.recovers self.new.tables db
-            → T.Store.recovers self.old.tables db ⊎ SpellsObjects db self.new.objects }
-        ensures clean { doubt (T.Store.view self.old.tables).is_clean ≤ doubt (T.Store.view self.new.tables).is_clean }
-    {
-        self.keep_with(&[])
-    }
-
-    /// Brings what changed into the tables, with edits of the session map, all in one transaction. Whatever it answers,
-    /// and wherever it is cut off, a crash leaves what it could leave before, or tables that spell exactly the objects
-    /// and have exactly the edited rows. Where it fails, what was noted stays noted, so that the next call brings it too,
-    /// and no edit is made. Tables that are shut take nothing any more: only another open tells which of both they have.
-    pub fn keep_with(&mut self, edits: &[RowEdit]) -> Result<(), StoreError>
+    /// Writes all changes into the tables and makes the edits of the session map, in one transaction. Whatever it
+    /// returns, and wherever it is cut off, a crash leaves what it could leave before, or tables that spell exactly the
+    /// objects and have exactly the edited rows. If it fails, the changes stay noted, so the next call writes them too,
+    /// and no edit is made. Tables that are shut accept no more changes. Only another open tells which of both they have.
+    pub fn keep(&mut self, edits: &[RowEdit]) -> Result<(), StoreError>
         ensures kept { OnOk result (self.new.noted ≡ none_noted) }
         ensures noted { OnErr result (self.new.noted ≡ self.old.noted) }
         ensures objects { self.new.objects ≡ self.old.objects }
@@ -261,14 +245,20 @@ impl<T: Trees + Drop> Store for Kept<T> {
 impl<T: Settle + Drop> Keep for Kept<T> {
     ghost may_fail = { Unit {0} };
 
+    ghost Takes = { TakesEdits T.Store.view T.Store.recovers };
+
     ghost faultless = { λ _ _. 0 };
 
     fn memory(&self) -> &MemStore {
         &self.objects
     }
 
-    fn keep(&mut self) -> Result<(), Unkept> {
-        match Kept::keep(self) {
+    fn keeps_rows(&self) -> bool {
+        true
+    }
+
+    fn keep(&mut self, edits: &[RowEdit]) -> Result<(), Unkept> {
+        match Kept::keep(self, edits) {
             Ok(()) => Ok(()),
             Err(error) => Err(unkept(error)),
         }

@@ -1,5 +1,5 @@
 //! `MdCache`, and what a contract sees of it.
-ghost use Rattle.std.specs.Prelude.{◌≡◌, length, IfErr};
+ghost use Rattle.std.specs.Prelude.{◌≡◌, length, IfErr, IfOk};
 ghost use Rattle.dentry_cache.specs.CacheMap.{AreCaches};
 
 use crate::counters::Counters;
@@ -7,11 +7,12 @@ use crate::purge_list::PurgeList;
 use crate::standing_jobs::StandingJobs;
 use dentry_cache::Caches;
 use inode_table::Dirs;
-use keeping::{Keep, Unkept};
+use keeping::{Keep, RowEdit, Unkept};
 use mds_types::Limit;
 use objstore::Store;
 use std::alloc::Global;
 use std::marker::Model;
+use std::snapshot::Snapshot;
 
 /// A directory table, a cache of fragments over a store for each rank, the commits that were begun, and the purge list;
 /// and how many entries a directory may have.
@@ -114,12 +115,17 @@ impl<S: Store + Drop> MdCache<S> {
 }
 
 impl<S: Keep + Drop> MdCache<S> {
-    /// Brings what the store has where it outlives the process. Whatever it answers, all is as it was.
-    pub fn keep(&mut self) -> Result<(), Unkept>
+    /// Writes what the store has where it outlives the process, with edits of the rows beside it. The results are the
+    /// store before and after, for contracts alone. Whatever it returns, the cache is unchanged.
+    pub fn keep(&mut self, edits: &[RowEdit]) -> Result<(Snapshot<S>, Snapshot<S>), Unkept>
         ensures same { self.new ≡ self.old }
+        ensures taken { IfOk result (λ s. S.Takes s.0.value edits.now s.1.value) }
+        ensures objects { IfOk result (λ s. S.objects s.1.value ≡ self.old.objects) }
         ensures failed { IfErr result (λ _. S.may_fail) }
     {
-        self.store.keep()
+        let before = Snapshot::of(&self.store);
+        self.store.keep(edits)?;
+        Ok((before, Snapshot::of(&self.store)))
     }
 
     /// Leaves what was kept whole in one place, as a run ends. Whatever it answers, all is as it was.

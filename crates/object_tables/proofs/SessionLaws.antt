@@ -11,7 +11,7 @@ use Rattle.objstore.specs.Objects.{Objects, header_at}
 use Rattle.sqlite_value.specs.Order.{Row}
 use Rattle.sqlite_trees.specs.Tree.{Trees}
 use Rattle.sqlite_trees.specs.View.{View}
-use Rattle.object_tables.specs.declared.sessions.RowEdit.{RowEdit}
+use Rattle.keeping.specs.declared.rows.RowEdit.{RowEdit}
 use Rattle.object_tables.specs.Entries.{IsKeyedTable, LeavesOthers, PutsRow, Says, one_blob, one_text, two_texts}
 use Rattle.object_tables.specs.Noted.{Noted, has_key, has_name}
 use Rattle.object_tables.specs.Spelled.{HaveOwners, SpellsBut, SpellsObjects, object_key, pair_key, value_at}

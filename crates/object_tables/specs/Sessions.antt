@@ -5,7 +5,7 @@ use Rattle.objstore.specs.Omap.{key_cmp}
 use Rattle.sqlite_value.specs.declared.value.Value.TheVariants.{Blob}
 use Rattle.sqlite_value.specs.Order.{Row}
 use Rattle.sqlite_trees.specs.Tree.{Trees}
-use Rattle.object_tables.specs.declared.sessions.RowEdit.{RowEdit}
+use Rattle.keeping.specs.declared.rows.RowEdit.{RowEdit}
 use Rattle.object_tables.specs.Entries.{IsKeyedTable, Says, entry, one_blob}
 use Rattle.object_tables.specs.Noted.{Noted, has_key, has_name}
 use Rattle.object_tables.specs.Spelled.{HaveOwners, SpellsBut, SpellsObjects}

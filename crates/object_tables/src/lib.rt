@@ -17,6 +17,6 @@ pub use changes::Changes;
 pub use entries::{add_entry, put_entry};
 pub use laws::{objects_have_one_spelling, session_map_has_one_spelling};
 pub use reading::{ReadFault, read_objects};
-pub use sessions::{RowEdit, read_session_rows};
+pub use sessions::read_session_rows;
 pub use tables::{OBJECTS, PAIRS, SESSIONS, has_tables, objects_schema, schema, sessions_table};
 pub use writing::{save, write_changes};

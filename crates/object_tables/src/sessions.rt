@@ -8,6 +8,7 @@ ghost use Rattle.object_tables.specs.Spelled.{HasTables};
 use crate::entries::put_entry;
 use crate::reading::ReadFault;
 use crate::tables::SESSIONS;
+use keeping::RowEdit;
 use mds_types::Bytes;
 use objstore::Pairs;
 use sqlite_trees::error::StoreError;
@@ -15,13 +16,6 @@ use sqlite_trees::store::{Direction, Shape, Store};
 use sqlite_value::row::Row;
 use sqlite_value::value::ValueRef;
 use std::alloc::Global;
-
-/// A change of the session map: the key has this value then, or no row.
-#[derive(Debug, Drop)]
-pub struct RowEdit {
-    pub key: Bytes,
-    pub value: Option<Bytes>,
-}
 
 /// All rows of the session map, exactly. Where it fails, the transaction is rolled back.
 pub fn read_session_rows<T: Store>(trees: &mut T, alloc: Global) -> Result<Pairs, ReadFault>

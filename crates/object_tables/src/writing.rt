@@ -12,8 +12,9 @@ ghost use Rattle.object_tables.specs.Spelled.{AreRight, HasTables, HaveOwners, S
 use crate::changes::Changes;
 use crate::entries::{add_entry, put_entry};
 use crate::name_sets::NameSet;
-use crate::sessions::{RowEdit, write_rows};
+use crate::sessions::write_rows;
 use crate::tables::{OBJECTS, PAIRS};
+use keeping::RowEdit;
 use mds_types::{Bytes, Text};
 use objstore::MemStore;
 use sorted_map::Iter;

@@ -1,10 +1,11 @@
 //! What ranks last heard of each other's subtree roots. No answer depends on it.
-ghost use Rattle.std.specs.Prelude.{◌≡◌, IfErr};
+ghost use Rattle.std.specs.Prelude.{◌≡◌, IfErr, IfOk};
 
 use crate::ranked_tree::RankedTree;
-use keeping::{Keep, Unkept};
+use keeping::{Keep, RowEdit, Unkept};
 use mds_types::{Dirfrag, Rank};
 use objstore::Store;
+use std::snapshot::Snapshot;
 
 impl<S: Store + Drop> RankedTree<S> {
     /// Where a rank has a hint on the nearest root of a leaf, it names that root's rank from then on. Takes no memory.
@@ -26,12 +27,15 @@ impl<S: Store + Drop> RankedTree<S> {
 }
 
 impl<S: Keep + Drop> RankedTree<S> {
-    /// Brings what the store has where it outlives the process. Whatever it answers, all is as it was.
-    pub fn keep(&mut self) -> Result<(), Unkept>
+    /// Writes what the store has where it outlives the process, with edits of the rows beside it. The results are the
+    /// store before and after, for contracts alone. Whatever it returns, the tree is unchanged.
+    pub fn keep(&mut self, edits: &[RowEdit]) -> Result<(Snapshot<S>, Snapshot<S>), Unkept>
         ensures same { self.new ≡ self.old }
+        ensures taken { IfOk result (λ s. S.Takes s.0.value edits.now s.1.value) }
+        ensures objects { IfOk result (λ s. S.objects s.1.value ≡ self.old.tree.objects) }
         ensures failed { IfErr result (λ _. S.may_fail) }
     {
-        self.tree.keep()
+        self.tree.keep(edits)
     }
 
     /// Leaves what was kept whole in one place, as a run ends. Whatever it answers, all is as it was.
