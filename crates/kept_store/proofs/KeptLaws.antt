@@ -8,7 +8,8 @@ use Rattle.sqlite_trees.specs.View.{IsClean, IsReopened, View}
 use Rattle.object_tables.specs.Entries.{Says}
 use Rattle.object_tables.specs.Noted.{Noted, has_key, has_name, none_noted, spot_cmp}
 use Rattle.keeping.specs.declared.rows.RowEdit.{RowEdit}
-use Rattle.object_tables.specs.Sessions.{Brings, HasSessionRows, SessionRows}
+use Rattle.object_tables.specs.Sessions.{Brings, HasSessionRows}
+use Rattle.keeping.specs.Rows.{SessionRows}
 use Rattle.object_tables.specs.Spelled.{HasTables, HaveOwners, SpellsObjects, SpellsBut, object_key, pair_key}
 use Rattle.object_tables.proofs.SpelledLaws.{one_spelling, spells_less, spells_owned}
 use Rattle.kept_store.specs.Kept.{HasBoth, IsFreshMirror, IsMirrored, IsReady, StoresRows}

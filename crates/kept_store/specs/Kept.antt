@@ -9,7 +9,8 @@ use Rattle.keeping.specs.declared.unkept.Unkept.{Unkept}
 use Rattle.keeping.specs.declared.unkept.Unkept.TheVariants as told
 use Rattle.object_tables.specs.Noted.{Noted, has_key, has_name, none_noted}
 use Rattle.keeping.specs.declared.rows.RowEdit.{RowEdit}
-use Rattle.object_tables.specs.Sessions.{HasSessionRows, SessionRows, edited}
+use Rattle.object_tables.specs.Sessions.{HasSessionRows}
+use Rattle.keeping.specs.Rows.{SessionRows, edited}
 use Rattle.object_tables.specs.Spelled.{HasTables, HaveOwners, SpellsObjects, SpellsBut}
 
 -- the objects; the names and keys that changed since they were last written into the tables; and the tables

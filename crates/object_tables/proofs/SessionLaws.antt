@@ -15,7 +15,8 @@ use Rattle.keeping.specs.declared.rows.RowEdit.{RowEdit}
 use Rattle.object_tables.specs.Entries.{IsKeyedTable, LeavesOthers, PutsRow, Says, one_blob, one_text, two_texts}
 use Rattle.object_tables.specs.Noted.{Noted, has_key, has_name}
 use Rattle.object_tables.specs.Spelled.{HaveOwners, SpellsBut, SpellsObjects, object_key, pair_key, value_at}
-use Rattle.object_tables.specs.Sessions.{AddsRow, Brings, HasSessionRows, HaveOneSessionMap, SessionRows, SpellsRows, edited, session_key, with_value}
+use Rattle.object_tables.specs.Sessions.{AddsRow, Brings, HasSessionRows, HaveOneSessionMap, SpellsRows, session_key}
+use Rattle.keeping.specs.Rows.{SessionRows, edited, with_value}
 use Rattle.object_tables.proofs.ReadLaws.{none_some, says_pushed, table_pushed}
 use Rattle.object_tables.proofs.SpelledLaws.{apart_names, said_same, said_still, same_name}
 

@@ -6,14 +6,11 @@ use Rattle.sqlite_value.specs.declared.value.Value.TheVariants.{Blob}
 use Rattle.sqlite_value.specs.Order.{Row}
 use Rattle.sqlite_trees.specs.Tree.{Trees}
 use Rattle.keeping.specs.declared.rows.RowEdit.{RowEdit}
+use Rattle.keeping.specs.Rows.{SessionRows, edited}
 use Rattle.object_tables.specs.Entries.{IsKeyedTable, Says, entry, one_blob}
 use Rattle.object_tables.specs.Noted.{Noted, has_key, has_name}
 use Rattle.object_tables.specs.Spelled.{HaveOwners, SpellsBut, SpellsObjects}
 use Rattle.objstore.specs.Objects.{Objects}
-
--- what the session map is: a value for each of its keys
-abbrev pub SessionRows : Type 0
-SessionRows = finmap.FinMap key_cmp (List ℕ)
 
 -- a key in its table
 abbrev pub session_key : List ℕ → Row
@@ -31,16 +28,6 @@ HasSessionRows trees rows = SpellsRows (trees 2) rows
 -- tables have at most one session map
 abbrev pub HaveOneSessionMap : Type 0
 HaveOneSessionMap = (trees : Trees) (a b : SessionRows) → HasSessionRows trees a → HasSessionRows trees b → a ≡ b
-
--- the rows where a key has this value, or none
-abbrev pub with_value : Option (List ℕ) → List ℕ → SessionRows → SessionRows
-with_value None key rows = finmap.remove rows key
-with_value (Some value) key rows = finmap.insert rows key value
-
--- the rows once edits are made, one after the other
-abbrev pub edited : List RowEdit → SessionRows → SessionRows
-edited [] rows = rows
-edited (edit ∷ edits) rows = edited edits (with_value edit.value edit.key rows)
 
 -- what a transaction brings into tables. Where the old ones have spelled all objects but those names and keys that
 -- changed, with a row for each pair's object, the new ones spell exactly the objects, and have exactly the rows edited

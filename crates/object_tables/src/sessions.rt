@@ -2,7 +2,8 @@
 ghost use Rattle.std.specs.Prelude.{◌≡◌, ◌≤◌, IsTrue, IfOk, OnOk, option_copied};
 ghost use Rattle.sqlite_trees.specs.View.{IsClean, IsQuiet, KeepsSchema, OnlyWrites};
 ghost use Rattle.object_tables.specs.Entries.{IsKeyedTable, LeavesOthers, PutsRow, one_blob};
-ghost use Rattle.object_tables.specs.Sessions.{AddsRow, HasSessionRows, SessionRows, edited, session_key};
+ghost use Rattle.object_tables.specs.Sessions.{AddsRow, HasSessionRows, session_key};
+ghost use Rattle.keeping.specs.Rows.{SessionRows, edited};
 ghost use Rattle.object_tables.specs.Spelled.{HasTables};
 
 use crate::entries::put_entry;

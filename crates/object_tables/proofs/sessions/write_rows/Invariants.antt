@@ -1,7 +1,8 @@
 use Rattle.std.proofs.Common.{drop}
 use Rattle.sqlite_trees.specs.View.{IsClean, IsQuiet, KeepsSchema, OnlyWrites}
 use Rattle.object_tables.specs.Entries.{LeavesOthers}
-use Rattle.object_tables.specs.Sessions.{HasSessionRows, SessionRows}
+use Rattle.object_tables.specs.Sessions.{HasSessionRows}
+use Rattle.keeping.specs.Rows.{SessionRows}
 use Rattle.object_tables.proofs.SessionLaws.{IsEdited}
 use Rattle.object_tables.proofs.sessions.write_rows.Given as goal
 

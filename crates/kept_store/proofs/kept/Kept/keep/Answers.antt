@@ -1,6 +1,7 @@
 use Rattle.std.proofs.Common.{◌⊎◌, ◌∙◌, arith, subst, sym}
 use Rattle.sqlite_trees.specs.View.{IsClean}
-use Rattle.object_tables.specs.Sessions.{HasSessionRows, edited}
+use Rattle.object_tables.specs.Sessions.{HasSessionRows}
+use Rattle.keeping.specs.Rows.{edited}
 use Rattle.kept_store.specs.Kept.{HasBoth, KeptObjects, StoresRows}
 use Rattle.kept_store.proofs.KeptLaws.{both_of, crash_of, kept_all, kept_anyway, objects_of, on_err, open_of, seen}
 use Rattle.kept_store.proofs.kept.Kept.keep.Goals as goal
