@@ -1,10 +1,12 @@
 -- A load's book goes on.
-use Rattle.admin_cli.proofs.Common.{IsSoundKept, KeptState, List, Opening, Option, Some, StandsBehind, [], ap, append-nil, append_assoc, drop, fresh, refl, subst, sym, take, take-append-drop, ℕ, ◌++◌, ◌∙◌, ◌≡◌}
+use Rattle.admin_cli.proofs.Common.{IsSoundKept, KeptState, List, Opening, arith, length, ◌≤◌, Option, Some, StandsBehind, [], ap, append-nil, append_assoc, drop, fresh, refl, subst, sym, take, take-append-drop, ℕ, ◌++◌, ◌∙◌, ◌≡◌}
 use Rattle.std.specs.FinMap as map
 use Rattle.std.specs.Prelude.{IfSome}
 use Rattle.mds_types.specs.Tree.{Tree}
 use Rattle.mds_types.specs.declared.entries.Entry.{Entry}
 use Rattle.asking.proofs.LoopLaws.{goes_on_then}
+use Rattle.cluster_core.specs.State.{places_of}
+use Rattle.cluster_core.proofs.Forgotten.{places_behind}
 use Rattle.admin_cli.specs.Left.{BookGrows}
 use Rattle.admin_cli.specs.Reports.{OpensEmpty}
 use Rattle.rank_threads.specs.Continued.{Continues}
@@ -38,16 +40,19 @@ goes_on_forgot a b count left on = λ opening past given.
 
 -- a new book opened with the empty tree,
 pub opens_fresh : (book : KeptState) → StandsBehind (fresh map.empty) [] book → OpensEmpty book
-opens_fresh book behind = (fresh map.empty, refl, [], behind)
+opens_fresh book behind = (fresh map.empty, refl, refl, [], behind)
 
 -- and so did a book that grew from one that did
 pub opens_still : (a b : KeptState) → BookGrows a b → OpensEmpty a → OpensEmpty b
-opens_still a b grows (opening, empty, past, behind) = let its = grows opening past behind in (opening, empty, its.forgotten, its.behind)
+opens_still a b grows (opening, empty, none, past, behind) =
+    let its = grows opening past behind in (opening, empty, none, its.forgotten, its.behind)
 
 -- so did a sound one that keeps that tree
 kept_opening : (kept : Option Tree) (opening tree : Tree) → kept ≡ Some tree → IfSome kept (λ (t : Tree). t ≡ opening) → tree ≡ opening
 kept_opening kept opening tree is holds = subst (λ (o : Option Tree). IfSome o (λ (t : Tree). t ≡ opening)) is holds
 
-pub opens_empty_of : (book : KeptState) → IsSoundKept book → book.opening ≡ Some map.empty → OpensEmpty book
-opens_empty_of book known is =
-    (known.0, sym (kept_opening book.opening known.0.tree map.empty is known.2.opened), known.1, known.2)
+pub opens_empty_of : (book : KeptState) → IsSoundKept book → places_of book ≤ 0 → book.opening ≡ Some map.empty → OpensEmpty book
+opens_empty_of book known none is =
+    let begins : known.0.told ≤ length (known.1 ++ book.history) = known.2.behind.sound.legal.begins in
+    let all : length (known.1 ++ book.history) ≡ places_of book = places_behind known.0 known.1 book known.2 in
+    (known.0, sym (kept_opening book.opening known.0.tree map.empty is known.2.opened), omega (arith, begins, all, none), known.1, known.2)

@@ -33,10 +33,11 @@ pub record Reports (served : ℕ) (agrees : Bool) (text : List ℕ) : Type 0 whe
   pub in_order : AreInOrder paths
   pub whole : text ≡ head_text served agrees ++ path_lines paths
 
--- a book opened with the empty tree, whichever past is forgotten, and whichever stand-ins its history begins with
+-- a book opened with the empty tree and no stand-ins, whichever past is forgotten
 abbrev pub OpensEmpty : KeptState → Type 0
 OpensEmpty book =
-    (opening : Opening) × (opening.tree ≡ map.empty) × (past : List Entry) × StandsBehind opening past book
+    (opening : Opening) × (opening.tree ≡ map.empty) × (opening.told ≡ 0) × (past : List Entry)
+    × StandsBehind opening past book
 
 -- the text of a run whose book opened with the empty tree
 pub record IsText (agrees : Bool) (text : List ℕ) : Type 0 where

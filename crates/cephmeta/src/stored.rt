@@ -125,7 +125,7 @@ fn load_over<T: Settle + Drop + Send, H: AllocGlobal + Threads + Wait + Sync + E
                 return told(
                     host,
                     path,
-                    &"has a tree, and serve begins with an empty one",
+                    &"has a tree or sessions, and serve begins with an empty tree and none",
                 );
             }
             let is_watched = host.stderr().is_terminal();

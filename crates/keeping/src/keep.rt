@@ -1,5 +1,5 @@
 //! A store that can be told to keep its objects.
-ghost use Rattle.std.specs.Prelude.{◌≡◌, IfErr, IsTrue, List, OnOk};
+ghost use Rattle.std.specs.Prelude.{◌≡◌, false, Bool, IfErr, IsTrue, List, OnOk};
 ghost use Rattle.keeping.specs.declared.rows.RowEdit.{RowEdit as Edit};
 
 use crate::rows::RowEdit;
@@ -13,6 +13,9 @@ pub trait Keep: Store {
     /// Whether `keep` and `settle` may fail. Of a store that is nowhere else they never do.
     ghost may_fail: { Type 0 };
 
+    // Whether the store keeps rows beside its objects.
+    ghost has_rows: { Bool };
+
     // What a `keep` of these edits that answers Ok makes of the store.
     ghost Takes: { Self → List Edit → Self → Type 0 };
 
@@ -22,7 +25,8 @@ pub trait Keep: Store {
 
     /// Whether the store keeps rows beside its objects. One that keeps none ignores edits.
     fn keeps_rows(&self) -> bool
-        ensures { IsTrue result → may_fail };
+        ensures rows { result ≡ has_rows }
+        ensures failing { IsTrue result → may_fail };
 
     /// Writes all objects that changed since the last call that returned Ok, and makes these edits of the rows that the
     /// store keeps beside them: all of it, or nothing. Whatever it returns, the objects are unchanged.
@@ -44,6 +48,8 @@ pub trait Keep: Store {
 /// A store that is nowhere else.
 impl Keep for MemStore {
     ghost may_fail = { ⊥ };
+
+    ghost has_rows = { false };
 
     ghost Takes = { λ old _ new. new ≡ old };
 

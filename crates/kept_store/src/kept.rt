@@ -1,5 +1,5 @@
 //! `Kept`: a store that is mirrored in tables.
-ghost use Rattle.std.specs.Prelude.{◌≡◌, ◌⊎◌, ◌↔◌, ◌≤◌, IsTrue, IfErr, IfOk, OnErr, OnOk};
+ghost use Rattle.std.specs.Prelude.{◌≡◌, ◌⊎◌, ◌↔◌, ◌≤◌, true, IsTrue, IfErr, IfOk, OnErr, OnOk};
 ghost use Rattle.std.specs.FinMap as map;
 ghost use Rattle.object_tables.specs.Noted.{none_noted};
 ghost use Rattle.keeping.specs.Rows.{SessionRows, edited};
@@ -244,6 +244,8 @@ impl<T: Trees + Drop> Store for Kept<T> {
 
 impl<T: Settle + Drop> Keep for Kept<T> {
     ghost may_fail = { Unit {0} };
+
+    ghost has_rows = { true };
 
     ghost Takes = { TakesEdits T.Store.view T.Store.recovers };
 

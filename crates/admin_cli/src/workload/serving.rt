@@ -100,12 +100,16 @@ fn new_book(alloc: Global, ranks: u8) -> Option<Book<MemStore>>
     }
 }
 
-/// Whether a book is known to have opened with the empty tree: it still keeps its opening tree, which is empty.
+/// Whether a book is known to have opened with the empty tree and with no session: it still keeps its opening tree,
+/// which is empty, and it has given no reply.
 #[tactic(auto, using(crate::proofs::GoesOnLaws::opens_empty_of))]
 pub fn opens_empty<S: Store + Drop>(alloc: Global, book: &Book<S>) -> bool
     ensures { IsTrue result → OpensEmpty book.now }
 {
     book.is_sound();
+    if book.places() > 0 {
+        return false;
+    }
     let empty = PlainTree::new(alloc);
     let is_empty = match book.opening() {
         Some(tree) => tree.eq(&empty),
