@@ -166,7 +166,10 @@ impl<S: Keep + Drop> Admin<S> {
             return OutputLine::Refused(refusal);
         }
         match self.book.keep() {
-            Ok(()) => OutputLine::Flushed,
+            Ok(kept) => {
+                drop(kept);
+                OutputLine::Flushed
+            }
             Err(why) => OutputLine::Unsaved(why),
         }
     }

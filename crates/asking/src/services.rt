@@ -25,6 +25,7 @@ use keeping::{Keep, Unkept};
 use mds_types::{Rank, Refusal, Request};
 use objstore::Store;
 use std::alloc::Global;
+use std::snapshot::Snapshot;
 use std::thread::Threads;
 
 /// Asks a request at a rank of a book in which nothing else waits. If it is refused, it is given up, as if it had never
@@ -223,8 +224,9 @@ impl<S: Store + Drop> Service<S> {
 }
 
 impl<S: Keep + Drop> Service<S> {
-    /// Keeps the content of the store so that it outlives the process, as `Book::keep` does.
-    pub fn keep(&mut self) -> Result<(), Unkept>
+    /// Keeps the content of the store so that it outlives the process, as `Book::keep` does. The results are the store
+    /// before and after, for contracts alone.
+    pub fn keep(&mut self) -> Result<(Snapshot<S>, Snapshot<S>), Unkept>
         ensures same { self.new.book ≡ self.old.book }
         ensures failed { IfErr result (λ _. S.may_fail) }
     {

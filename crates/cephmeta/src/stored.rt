@@ -8,9 +8,9 @@ ghost use Rattle.admin_cli.specs.Loads.{IsLoad};
 use admin_cli::{
     Aloud, CACHE, Limit, Load, Mode, Ran, Served, Untold, opens_empty, run_over, serve_over,
 };
-use cluster_core::{Book, mount};
+use cluster_core::Book;
 use keeping::Unkept;
-use kept_book::{Unsaved, save};
+use kept_book::{Unsaved, open_book, save};
 use kept_store::{Kept, Settle};
 use std::alloc::Global;
 use std::fmt::Display;
@@ -141,7 +141,7 @@ fn load_over<T: Settle + Drop + Send, H: AllocGlobal + Threads + Wait + Sync + E
     }
 }
 
-// Mounts the tree in tables. If that fails, tells why and removes the log of the file, which after the opening holds
+// Opens a book over the tree in tables, with its sessions. If that fails, tells why and removes the log of the file, which after the opening holds
 // nothing that the file lacks.
 fn mounted<T: Settle + Drop>(
     host: &HostRuntime,
@@ -164,12 +164,12 @@ fn mounted<T: Settle + Drop>(
             return Err(told(host, path, &fault));
         }
     };
-    match mount(alloc, kept, shape.ranks, shape.cache, shape.limit) {
+    match open_book(alloc, kept, shape.ranks, shape.cache, shape.limit) {
         Ok(book) => Ok(book),
-        Err((refusal, kept)) => {
+        Err((fault, kept)) => {
             let _ = remove_log(host, path);
             drop(kept.into_tables());
-            Err(told(host, path, &refusal))
+            Err(told(host, path, &fault))
         }
     }
 }

@@ -17,7 +17,6 @@ use crate::clusters::Cluster;
 use crate::events::{Answer, Event};
 use crate::plain_trees::PlainTree;
 use crate::settled::{Settled, keep_settled, may_unsettle};
-use keeping::{Keep, Unkept};
 use mds_types::{Entry, Limit, Rank, Refusal};
 use objstore::Store;
 use std::alloc::Global;
@@ -126,24 +125,6 @@ impl<S: Store + Drop> Book<S> {
         ensures { self.new ≡ self.old }
     {
         self.cluster.set_hints(rank);
-    }
-}
-
-impl<S: Keep + Drop> Book<S> {
-    /// Keeps the content of the store so that it outlives the process. Whatever it returns, the book is unchanged.
-    pub fn keep(&mut self) -> Result<(), Unkept>
-        ensures same { self.new ≡ self.old }
-        ensures failed { IfErr result (λ _. S.may_fail) }
-    {
-        self.cluster.keep()
-    }
-
-    /// Gathers all that was kept in one place, at the end of a run. Whatever it returns, the book is unchanged.
-    pub fn settle(&mut self) -> Result<(), Unkept>
-        ensures same { self.new ≡ self.old }
-        ensures failed { IfErr result (λ _. S.may_fail) }
-    {
-        self.cluster.settle()
     }
 }
 

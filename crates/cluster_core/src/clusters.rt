@@ -23,13 +23,14 @@ use crate::granting::grant_first;
 use crate::parts::{Given, Waiting};
 use crate::serving::serve_front;
 use inode_table::Numbers;
-use keeping::{Keep, Unkept};
+use keeping::{Keep, RowEdit, Unkept};
 use mds_types::{Bytes, Entry, Frag, Ino, Limit, Rank, Refusal, Request};
 use namespace_ops::Frags;
 use objstore::Store;
 use ranked_tree::RankedTree;
 use std::alloc::{AllocError, Global};
 use std::marker::Model;
+use std::snapshot::Snapshot;
 use subtree_map::Subtrees;
 
 /// A cluster of metadata server ranks that serve one tree over a store.
@@ -314,12 +315,16 @@ impl<S: Store + Drop> Cluster<S> {
 }
 
 impl<S: Keep + Drop> Cluster<S> {
-    /// Keeps the content of the store so that it outlives the process. Whatever it returns, the cluster is unchanged.
-    pub fn keep(&mut self) -> Result<(), Unkept>
+    /// Keeps the content of the store so that it outlives the process, and makes edits of the rows that the store keeps
+    /// beside its objects. The results are the store before and after, for contracts alone. Whatever it returns, the
+    /// cluster is unchanged.
+    pub(crate) fn keep(&mut self, edits: &[RowEdit]) -> Result<(Snapshot<S>, Snapshot<S>), Unkept>
         ensures same { self.new ≡ self.old }
+        ensures taken { IfOk result (λ s. S.Takes s.0.value edits.now s.1.value) }
+        ensures objects { IfOk result (λ s. S.objects s.1.value ≡ self.old.state.tree.objects) }
         ensures failed { IfErr result (λ _. S.may_fail) }
     {
-        self.tree.keep()
+        self.tree.keep(edits)
     }
 
     /// Gathers all that was kept in one place, at the end of a run. Whatever it returns, the cluster is unchanged.

@@ -32,6 +32,7 @@ mod runs;
 mod serving;
 mod settled;
 mod sights;
+mod storing;
 
 pub use books::{Book, format};
 pub use clusters::Cluster;

@@ -89,10 +89,20 @@ impl<S: Store + Drop> Book<S> {
         requires { rank.0 < length self.now.core.state.numbers }
         ensures { result ≡ (supply_of self.now.core.state rank).next }
     {
-        match self.cluster.given.supply_of(rank).peek() {
-            Some(Ino(next)) => next,
-            None => Numbers::first_of(rank).0 + PER_RANK,
-        }
+        next_of(self.cluster.given.supply_of(rank), rank)
+    }
+}
+
+/// The inode number that a rank would give next, or the end of its range.
+pub(crate) fn next_of(numbers: Numbers, rank: Rank) -> u64
+    requires ranked { rank.0 < 16 }
+    requires own { numbers.rank ≡ rank.0 }
+    requires valid { IsSupply numbers }
+    ensures { result ≡ numbers.next }
+{
+    match numbers.peek() {
+        Some(Ino(next)) => next,
+        None => Numbers::first_of(rank).0 + PER_RANK,
     }
 }
 

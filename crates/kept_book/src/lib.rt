@@ -6,8 +6,10 @@
 
 mod back;
 mod laws;
+mod opening;
 mod saving;
 
 pub use back::come_back;
 pub use laws::a_crash_leaves_a_flush;
+pub use opening::{Unopened, open_book};
 pub use saving::{Unsaved, kept_of, save};
