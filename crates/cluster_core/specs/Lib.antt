@@ -12,6 +12,7 @@ pub mod Forgetting
 pub mod Fragments
 pub mod GivenUp
 pub mod Grants
+pub mod KeptSessions
 pub mod Master
 pub mod Mounted
 pub mod Offer

@@ -1,23 +1,29 @@
 //! What a store keeps of a book: its objects, and beside them its sessions and the next numbers of its ranks.
-ghost use Rattle.std.specs.Prelude.{◌≡◌, IfErr, IfOk};
+ghost use Rattle.std.specs.Prelude.{◌≡◌, ◌<◌, ◌≤◌, true, ℕ, length, get_or, IfErr, IfOk};
+ghost use Rattle.inode_table.specs.Numbers.{IsSupply};
+ghost use Rattle.cluster_core.specs.KeptSessions.{AreNextOf, KeepsSessions, Updates};
+ghost use Rattle.cluster_core.specs.State.{no_supply};
 
 use crate::books::Book;
+use crate::parts::Given;
 use crate::resuming::next_of;
 use keeping::{Keep, RowEdit, Unkept};
 use mds_types::Rank;
 use objstore::Store;
 use session_rows::edits_of;
-use std::alloc::AllocError;
+use std::alloc::{AllocError, Global};
 use std::snapshot::Snapshot;
 
 impl<S: Keep + Drop> Book<S> {
     /// Keeps the content of the store so that it outlives the process. A store that keeps rows also gets what `resume`
-    /// needs: the session of each client that changed since the last `keep` that returned Ok, and each rank's next
+    /// needs: what is kept of each client that changed since the last `keep` that returned Ok, and each rank's next
     /// inode number. The results are the store before and after, for contracts alone. Whatever it returns, the book is
     /// unchanged.
     pub fn keep(&mut self) -> Result<(Snapshot<S>, Snapshot<S>), Unkept>
         ensures same { self.new ≡ self.old }
         ensures objects { IfOk result (λ s. S.objects s.1.value ≡ self.old.core.state.tree.objects) }
+        ensures sessions { S.has_rows ≡ true
+            → IfOk result (λ s. KeepsSessions self.old (λ edits. S.Takes s.0.value edits s.1.value)) }
         ensures failed { IfErr result (λ _. S.may_fail) }
     {
         if !self.cluster.store().keeps_rows() {
@@ -41,19 +47,36 @@ impl<S: Keep + Drop> Book<S> {
 }
 
 impl<S: Store + Drop> Book<S> {
-    // The rows of the changed clients, and those of the ranks.
-    fn edits(&self) -> Result<Vec<RowEdit>, AllocError> {
+    // The edits that store what is kept of the changed clients, and the next number of each rank.
+    fn edits(&self) -> Result<Vec<RowEdit>, AllocError>
+        ensures { IfOk result (λ edits. Updates self.now self.inside.cluster.given.sessions.changed edits.items) }
+    {
         let alloc = *self.history.allocator();
-        let numbers = &self.cluster.given.numbers;
-        let mut nexts = Vec::new(alloc);
-        for rank in 0..numbers.len() {
-            nexts.push(next_of(numbers[rank], Rank(rank as u8)))?;
-        }
+        let nexts = self.cluster.given.next_numbers(alloc)?;
         edits_of(
             alloc,
             &self.cluster.given.sessions,
             self.history.as_slice(),
             nexts.as_slice(),
         )
+    }
+}
+
+impl Given {
+    // The number that each rank would give next, or the end of its range.
+    fn next_numbers(&self, alloc: Global) -> Result<Vec<u64>, AllocError>
+        requires few { length self.now.numbers.items ≤ 16 }
+        requires own { (rank : ℕ) → rank < length self.now.numbers.items
+            → (get_or self.now.numbers.items rank no_supply).rank ≡ rank }
+        requires valid { (rank : ℕ) → rank < length self.now.numbers.items
+            → IsSupply (get_or self.now.numbers.items rank no_supply) }
+        ensures { IfOk result
+            (λ nexts. AreNextOf (length self.now.numbers.items) self.now.numbers.items nexts.items) }
+    {
+        let mut nexts = Vec::new(alloc);
+        for rank in 0..self.numbers.len() {
+            nexts.push(next_of(self.numbers[rank], Rank(rank as u8)))?;
+        }
+        Ok(nexts)
     }
 }
