@@ -6,13 +6,14 @@ use Rattle.mds_types.specs.History.{IsUsed}
 use Rattle.inode_table.specs.Numbers.{Supply, end_number, first_number}
 use Rattle.keeping.specs.declared.rows.RowEdit.{RowEdit}
 use Rattle.keeping.specs.Rows.{SessionRows, edited}
-use Rattle.sessions.specs.Replies.{ArePairsOnce}
-use Rattle.sessions.specs.Restored.{IsStoredBut, IsStoredOf}
+use Rattle.sessions.specs.Replies.{AnswerAlike, ArePairsOnce}
+use Rattle.sessions.specs.Restored.{IsRestored, IsStoredBut, IsStoredOf}
 use Rattle.sessions.specs.Rooms.{Held, table}
-use Rattle.sessions.specs.Stored.{Stored}
+use Rattle.sessions.specs.Stored.{Stored, stand_ins}
+use Rattle.sessions.specs.Table.{Table}
 use Rattle.session_rows.specs.Sessions.{SpellsSessions}
-use Rattle.cluster_core.specs.Opening.{IsGiven, IsUsedFrom, Opening}
-use Rattle.cluster_core.specs.Resumed.{supplies_from}
+use Rattle.cluster_core.specs.Opening.{IsGiven, IsLegalFrom, IsUsedFrom, Opening, after_from}
+use Rattle.cluster_core.specs.Resumed.{resumes, supplies_from}
 use Rattle.cluster_core.specs.Sound.{StandsBehind}
 use Rattle.cluster_core.specs.State.{Core, KeptState, no_supply, shown}
 
@@ -58,6 +59,34 @@ pub record KeepsSessions (book : KeptState) (takes : List RowEdit → Type 0) : 
   pub edits : List RowEdit
   pub taken : takes edits
   pub updates : Updates book held.changed edits
+
+-- stand-ins continue a history: each request is to them what it is to the history, one that the history keeps has the
+-- same reply, and what is legal behind them is legal behind the history
+pub record Continue (limit : ℕ) (opening : Opening) (history : List Entry) (next : Opening) (told : List Entry) : Type 0 where
+  pub alike : AnswerAlike history told
+  pub legal : (more : List Entry) → IsLegalFrom limit next (told ++ more) → IsLegalFrom limit opening (history ++ more)
+
+-- a book goes on from rows: with the stand-ins of what they store, which continue each history of which the rows tell
+-- all, if the book's tree is the one after it
+pub record GoesOnFrom (rows : SessionRows) (book : KeptState) : Type 0 where
+  pub stored : List Stored
+  pub nexts : List ℕ
+  pub spelled : SpellsSessions rows stored nexts
+  pub stands : StandsBehind (resumes (shown book.core.state) (stand_ins stored) nexts) (stand_ins stored) book
+  pub continues : (opening : Opening) (history : List Entry)
+      → IsLegalFrom book.core.state.tree.limit opening history
+      → shown book.core.state ≡ after_from book.core.state.tree.limit opening history
+      → Tells rows opening history (shown book.core.state)
+      → Continue book.core.state.tree.limit opening history
+      (resumes (shown book.core.state) (stand_ins stored) nexts) (stand_ins stored)
+
+-- rows that tell all of a history, and stored sessions that they spell: the stand-ins of these continue the history
+abbrev pub StoredSessionsGoOn : Type 0
+StoredSessionsGoOn =
+    (limit : ℕ) (opening : Opening) (history : List Entry) (rows : SessionRows) (stored : List Stored) (nexts : List ℕ)
+    (table : Table) → IsLegalFrom limit opening history → Tells rows opening history (after_from limit opening history)
+    → SpellsSessions rows stored nexts → IsRestored stored table → Continue limit opening history
+    (resumes (after_from limit opening history) (stand_ins stored) nexts) (stand_ins stored)
 
 -- the next numbers of the first of these ranks
 pub record AreNextOf (count : ℕ) (numbers : List Supply) (nexts : List ℕ) : Type 0 where

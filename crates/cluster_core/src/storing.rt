@@ -1,6 +1,7 @@
 //! What a store keeps of a book: its objects, and beside them its sessions and the next numbers of its ranks.
 ghost use Rattle.std.specs.Prelude.{◌≡◌, ◌<◌, ◌≤◌, true, ℕ, length, get_or, IfErr, IfOk};
 ghost use Rattle.inode_table.specs.Numbers.{IsSupply};
+ghost use Rattle.sessions.specs.Rooms.{Held, table};
 ghost use Rattle.cluster_core.specs.KeptSessions.{AreNextOf, KeepsSessions, Updates};
 ghost use Rattle.cluster_core.specs.State.{no_supply};
 
@@ -49,7 +50,8 @@ impl<S: Keep + Drop> Book<S> {
 impl<S: Store + Drop> Book<S> {
     // The edits that store what is kept of the changed clients, and the next number of each rank.
     fn edits(&self) -> Result<Vec<RowEdit>, AllocError>
-        ensures { IfOk result (λ edits. Updates self.now self.inside.cluster.given.sessions.changed edits.items) }
+        ensures { IfOk result (λ edits. (held : Held) × (table held ≡ self.now.core.state.sessions)
+            × Updates self.now held.changed edits.items) }
     {
         let alloc = *self.history.allocator();
         let nexts = self.cluster.given.next_numbers(alloc)?;
