@@ -191,8 +191,8 @@ fn close<T: Settle + Drop>(
     mut book: Book<Kept<T>>,
 ) -> Closed {
     let saved = match save(rt, rt.alloc(), &mut book) {
-        Ok(snapshot) => {
-            drop(snapshot);
+        Ok(stores) => {
+            drop(stores);
             Ok(())
         }
         Err(why) => Err(why),

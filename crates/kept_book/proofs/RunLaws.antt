@@ -10,15 +10,15 @@ use Rattle.kept_book.specs.Survives.{IsOnDisk}
 use Rattle.kept_book.specs.Runs.{LeavesAFlush, begins, writes, flushes, settles}
 
 pub leaves_a_flush : {T : Type 0} (recovers : T → Trees → Type 0) → LeavesAFlush recovers
-leaves_a_flush recovers first _ last _ disk begins db may = inl (disk.mounts db may)
-leaves_a_flush recovers first _ last _ disk (writes tried now next run same) db may =
-    leaves_a_flush recovers first now last tried disk run db (subst (λ t. recovers t db) same may)
-leaves_a_flush recovers first _ last _ disk (flushes tried now next tree run cold crash) db may = elim (crash db may) [
-  | inl was ↦ inr (leaves_a_flush recovers first now last tried disk run db was)
-  | inr is ↦ inl (record { objects = next.objects; spelled = is; cold = cold })
+leaves_a_flush recovers first _ last _ disk rows begins db may = inl (disk.mounts db may, rows db may)
+leaves_a_flush recovers first _ last _ disk rows (writes tried now next run same) db may =
+    leaves_a_flush recovers first now last tried disk rows run db (subst (λ t. recovers t db) same may)
+leaves_a_flush recovers first _ last _ disk rows (flushes tried now next flush run cold crash) db may = elim (crash db may) [
+  | inl was ↦ inr (leaves_a_flush recovers first now last tried disk rows run db was)
+  | inr is ↦ inl (record { objects = next.objects; spelled = is.0; cold = cold }, is.1)
 ]
-leaves_a_flush recovers first _ last _ disk (settles tried now next run fewer) db may =
-    leaves_a_flush recovers first now last tried disk run db (fewer db may)
+leaves_a_flush recovers first _ last _ disk rows (settles tried now next run fewer) db may =
+    leaves_a_flush recovers first now last tried disk rows run db (fewer db may)
 
 -- where whatever a crash leaves spells objects, their cold tree is on disk
 pub on_disk : (recovers : Trees → Type 0) (objects : Objects) (tree : Tree) → ((db : Trees) → recovers db → SpellsObjects db objects) → IsColdTree objects tree

@@ -49,7 +49,7 @@ pub fn open_book<T: Trees + Drop>(
         Err(fault) => return Err((Unopened::Damaged(fault), kept)),
     };
     drop(rows);
-    match resume(alloc, kept, ranks, cache, limit, sessions, nexts.as_slice()) {
+    match resume(alloc, kept, ranks, cache, limit, sessions, &nexts) {
         Ok(book) => Ok(book),
         Err((refusal, kept)) => Err((Unopened::Refused(refusal), kept)),
     }

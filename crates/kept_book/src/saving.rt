@@ -3,8 +3,10 @@ ghost use Rattle.std.specs.Prelude.{◌≡◌, ◌++◌, List, IfOk, IfSome};
 ghost use Rattle.mds_types.specs.Tree.{Tree};
 ghost use Rattle.mds_types.specs.declared.entries.Entry.{Entry as Applied};
 ghost use Rattle.cold_store.specs.ColdTree.{IsColdTree};
+ghost use Rattle.cluster_core.specs.KeptSessions.{KeepsSessions};
 ghost use Rattle.cluster_core.specs.Opening.{Opening, after_from};
 ghost use Rattle.cluster_core.specs.Sound.{StandsBehind, IsSoundKept};
+ghost use Rattle.kept_store.specs.Kept.{TakesEdits};
 ghost use Rattle.sqlite_trees.specs.View.{IsClean};
 ghost use Rattle.kept_book.specs.Saves.{Saves};
 ghost use Rattle.kept_book.specs.Survives.{IsOnDisk, Survives};
@@ -32,16 +34,19 @@ pub enum Unsaved {
 }
 
 /// Flushes a cluster, and keeps what it wrote. After Ok, if the disk was honest, the tree after the history is on disk:
-/// a mount of whatever a crash leaves of the file from then on shows this tree and no other. The result is the store at
-/// that moment, for contracts alone. Whatever the result, the tree and the history are unchanged.
+/// a mount of whatever a crash leaves of the file from then on shows this tree and no other. Beside it are the sessions
+/// and the ranks' next numbers, as `Book::keep` writes them. The results are the store before and after the call that
+/// keeps, for contracts alone. Whatever the result, the tree and the history are unchanged.
 pub fn save<T: Settle + Drop>(
     rt: &(impl Threads + Sync),
     alloc: Global,
     book: &mut Book<Kept<T>>,
-) -> Result<Snapshot<Kept<T>>, Unsaved>
+) -> Result<(Snapshot<Kept<T>>, Snapshot<Kept<T>>), Unsaved>
     ensures on_disk { (opening : Opening) (past : List Applied) → StandsBehind opening past book.old → IfOk result
-        (λ s. IsClean (T.Store.view s.value.tables) → IsOnDisk (T.Store.recovers s.value.tables)
+        (λ s. IsClean (T.Store.view s.1.value.tables) → IsOnDisk (T.Store.recovers s.1.value.tables)
         (after_from book.old.core.state.tree.limit opening (past ++ book.old.history))) }
+    ensures sessions { IfOk result (λ s. KeepsSessions book.new
+        (λ edits. TakesEdits T.Store.view T.Store.recovers s.0.value edits s.1.value)) }
     ensures saves { Saves book.old book.new result }
     ensures goes_on { (opening : Opening) (past : List Applied) → StandsBehind opening past book.old
         → StandsBehind opening past book.new }
@@ -50,12 +55,10 @@ pub fn save<T: Settle + Drop>(
     if let Err(refusal) = flush(rt, alloc, book) {
         return Err(Unsaved::Refused(refusal));
     }
-    if let Err(why) = book.keep() {
-        return Err(Unsaved::Unkept(why));
-    }
-    match kept_of(book) {
-        Some(store) => Ok(Snapshot::of(store)),
-        None => Err(Unsaved::Unkept(Unkept::Shut)),
+    has_one_cold_tree();
+    match book.keep() {
+        Ok(stores) => Ok(stores),
+        Err(why) => Err(Unsaved::Unkept(why)),
     }
 }
 

@@ -50,12 +50,13 @@ abbrev pub HasBoth : (Trees → Type 0) → Trees → Objects → List RowEdit �
 HasBoth before db objects edits =
     SpellsObjects db objects × ((rows : SessionRows) → StoresRows before rows → HasSessionRows db (edited edits rows))
 
--- a store took edits: the tables have all objects, and, if the disk is honest, the rows that the edits make of those that
--- were stored before
+-- a store took edits: nothing is noted any more. If the disk is honest, whatever a crash leaves spells the objects, and
+-- has the rows that the edits make of those that were stored before
 pub record TakesEdits {T : Type 0} (view : T → View) (recovers : T → Trees → Type 0) (old : KeptObjects T)
     (edits : List RowEdit) (new : KeptObjects T) : Type 0 where
   pub kept : new.noted ≡ none_noted
   pub objects : new.objects ≡ old.objects
+  pub spelled : IsClean (view new.tables) → (db : Trees) → recovers new.tables db → SpellsObjects db new.objects
   pub rows : IsClean (view new.tables) → (rows : SessionRows) → StoresRows (recovers old.tables) rows
       → StoresRows (recovers new.tables) (edited edits rows)
   pub clean : doubt (view old.tables).is_clean ≤ doubt (view new.tables).is_clean

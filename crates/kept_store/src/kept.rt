@@ -261,7 +261,10 @@ impl<T: Settle + Drop> Keep for Kept<T> {
 
     fn keep(&mut self, edits: &[RowEdit]) -> Result<(), Unkept> {
         match Kept::keep(self, edits) {
-            Ok(()) => Ok(()),
+            Ok(()) => {
+                self.is_mirrored();
+                Ok(())
+            }
             Err(error) => Err(unkept(error)),
         }
     }
