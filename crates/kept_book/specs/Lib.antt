@@ -1,3 +1,4 @@
+pub mod Opened
 pub mod Runs
 pub mod Saves
 pub mod Survives

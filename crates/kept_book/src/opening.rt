@@ -1,4 +1,15 @@
 //! Opening a cluster over a store, with the sessions that the store keeps.
+ghost use Rattle.std.specs.Prelude.{◌≡◌, ◌≤◌, IfErr, IfOk};
+ghost use Rattle.keeping.specs.Rows.{SessionRows};
+ghost use Rattle.kept_store.specs.Kept.{StoresRows};
+ghost use Rattle.mdcache.specs.Mounted.{IsColdTree};
+ghost use Rattle.sqlite_trees.specs.View.{IsClean};
+ghost use Rattle.cluster_core.specs.KeptSessions.{GoesOnFrom};
+ghost use Rattle.cluster_core.specs.Sound.{IsSoundKept};
+ghost use Rattle.cluster_core.specs.State.{shown};
+ghost use Rattle.kept_book.specs.Opened.{MayNotOpen};
+
+use cluster_core::laws::stored_sessions_go_on;
 use cluster_core::{Book, resume};
 use kept_store::Kept;
 use mds_types::{Limit, Refusal};
@@ -39,7 +50,14 @@ pub fn open_book<T: Trees + Drop>(
     requires ranked { ranks ≤ 16 }
     requires least { 512 ≤ cache }
     requires most { cache ≤ 65536 }
+    ensures cold { IfOk result (λ book. IsColdTree kept.objects (shown book.core.state)) }
+    ensures goes_on { IfOk result (λ book. ((t : T) → IsClean (T.Store.view t)) → (rows : SessionRows)
+        → StoresRows (T.Store.recovers kept.tables) rows → GoesOnFrom rows book) }
+    ensures sound { IfOk result IsSoundKept }
+    ensures refused { IfErr result (λ back. MayNotOpen T.Store.view T.Store.recovers kept back.0) }
+    ensures left { IfErr result (λ back. back.1.objects ≡ kept.objects) }
 {
+    stored_sessions_go_on();
     let rows = match kept.session_rows() {
         Ok(rows) => rows,
         Err(fault) => return Err((Unopened::Unread(fault), kept)),

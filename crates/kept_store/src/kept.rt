@@ -126,6 +126,8 @@ impl<T: Trees + Drop> Kept<T> {
     pub fn session_rows(&mut self) -> Result<Pairs, ReadFault>
         ensures rows { IfOk result (λ rows. IsClean (T.Store.view self.new.tables)
             → StoresRows (T.Store.recovers self.new.tables) rows) }
+        ensures alone { IfOk result (λ rows. IsClean (T.Store.view self.new.tables) → (others : SessionRows)
+            → StoresRows (T.Store.recovers self.old.tables) others → rows ≡ others) }
         ensures objects { self.new.objects ≡ self.old.objects }
         ensures noted { self.new.noted ≡ self.old.noted }
         ensures crash { (db : Rows) → T.Store.recovers self.new.tables db → T.Store.recovers self.old.tables db }

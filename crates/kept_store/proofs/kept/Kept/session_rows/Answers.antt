@@ -1,7 +1,9 @@
-use Rattle.std.proofs.Common.{◌∙◌, arith, subst, sym}
+use Rattle.std.proofs.Common.{◌≡◌, ◌∙◌, arith, subst, sym}
 use Rattle.std.proofs.lemmas.Result.{IfOk-weaker}
 use Rattle.sqlite_trees.specs.View.{IsClean}
 use Rattle.object_tables.specs.Sessions.{HasSessionRows}
+use Rattle.object_tables.proofs.SessionLaws.{one_session_map}
+use Rattle.kept_store.specs.Kept.{KeptObjects, StoresRows}
 use Rattle.kept_store.proofs.KeptLaws.{open_of, read_on}
 use Rattle.kept_store.proofs.kept.Kept.session_rows.Goals as goal
 
@@ -32,4 +34,16 @@ returns-clause-rows g c = IfOk-weaker c.read_session_rows.result _ _
     let is_open = open_of old.is_open old.is_broken (g.met.T.Store.broken_if_shut tables) (sym (c.is_broken.ensures early) ∙ c.if-is_broken.false) in
     let same = ((c.self.invariant early).ready is_open).fresh ∙ sym (g.met.T.Store.settled tables db is_open (c.read_session_rows.ensures.quiet.outcomes db may)) in
     subst (λ t. HasSessionRows t rows) same (has clean))
+    c.read_session_rows.ensures.ok
+
+pub returns-clause-alone : goal.returns-clause-alone
+returns-clause-alone g c = IfOk-weaker c.read_session_rows.result _ _
+    (λ rows has clean others.
+    let tables = c.self.inside.tables in
+    let old = g.T.Store.view tables in
+    let early : IsClean old = omega (arith, c.read_session_rows.ensures.quiet.clean) in
+    let is_open = open_of old.is_open old.is_broken (g.met.T.Store.broken_if_shut tables) (sym (c.is_broken.ensures early) ∙ c.if-is_broken.false) in
+    let same = ((c.self.invariant early).ready is_open).fresh in
+    subst (λ (k : KeptObjects _). StoresRows (g.T.Store.recovers k.tables) others → rows ≡ others) c.self.view_is
+    (λ stored. one_session_map old.committed rows others (subst (λ t. HasSessionRows t rows) same (has clean)) (stored old.committed (g.met.T.Store.stays tables is_open))))
     c.read_session_rows.ensures.ok
