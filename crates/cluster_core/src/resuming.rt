@@ -4,6 +4,7 @@ ghost use Rattle.objstore.specs.Objects.{faults_in};
 ghost use Rattle.inode_table.specs.Numbers.{IsSupply};
 ghost use Rattle.mds_types.specs.declared.entries.Entry.{Entry as Applied};
 ghost use Rattle.sessions.specs.Rooms.{table};
+ghost use Rattle.sessions.specs.Table.{mark_in};
 ghost use Rattle.mdcache.specs.Mounted.{IsColdTree, MayNotMount};
 ghost use Rattle.cluster_core.specs.Opening.{Opening};
 ghost use Rattle.cluster_core.specs.Resumed.{AreRaised, IsRaised, TellsAll, resumes};
@@ -82,6 +83,21 @@ impl<S: Store + Drop> Book<S> {
         ensures { table result.now ≡ self.now.core.state.sessions }
     {
         &self.cluster.given.sessions
+    }
+
+    /// A client's mark: the least transaction number that is no longer refused `Trimmed`; 0 for an unknown client.
+    pub fn mark(&self, client: u64) -> u64
+        ensures { result ≡ mark_in self.now.core.state.sessions client }
+    {
+        match self
+            .cluster
+            .given
+            .sessions
+            .kept(self.history.as_slice(), client)
+        {
+            Some(kept) => kept.mark,
+            None => 0,
+        }
     }
 
     /// The inode number that a rank would give next, or the end of its range: to be kept for a book that resumes.
