@@ -1,6 +1,10 @@
 pub mod Common
+pub mod KeptLaws
 pub mod KeyOrder
 pub mod RankLaws
 pub mod RowLaws
+pub mod SessionSteps
+pub mod StoreLaws
 pub mod ToldLaws
 pub mod Walks
+pub mod WriteLaws
