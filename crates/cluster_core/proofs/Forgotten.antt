@@ -1,5 +1,5 @@
 -- What is forgotten stays so at every step, and what is kept of it is set aside.
-use Rattle.cluster_core.proofs.Common.{Administers, Answer, AreCached, AreExported, AreRanks, AreSetAside, AreSettled, Arrive, ArrivesAt, BeginsAt, Bool, Cancel, CancelsAt, CommitBegin, CommitDrop, CommitEnd, CommitTree, Core, Does, Drops, EndsJobOf, Entry, Err, Event, Evict, EvictsOne, Exports, Finish, FinishesIn, Freeze, FreezesIn, Grant, GrantsFirst, Import, ImportsExport, IsApplied, IsForwarded, IsLeft, IsLegalFrom, IsSound, IsSoundBehind, IsTableOf, Opening, StandsBehind, IsTakenOut, IsUnseen, KeepsSettled, KeptState, after_from, places_of, Leaf, List, MatchBool, TreeMayRefuse, Merge, MergesLeaves, None, NotAuthority, Ok, Op, Option, Prep, PrepsIn, Purge, Purges, Rank, Refusal, Request, Result, SavesTree, Send, SendsExport, Serve, ServesInbox, ServesRequest, Some, Split, SplitsLeaf, Start, StartsIn, State, Table, Tree, [], ap, append_assoc, append-nil, arith, drop, entry_of, false, first_waiting, inl, inr, length, length-append, list_any, nat_lt, told_nothing, refl, shown, subst, sym, take, told_job, true, waiting_at, with_entry, with_waiting, ℕ, ◌++◌, ◌+◌, ◌-◌, ◌<◌, ◌≤◌, ◌∙◌, ◌∷◌, ◌≡◌, ◌⊎◌}
+use Rattle.cluster_core.proofs.Common.{Administers, Answer, AreCached, AreExported, AreRanks, AreSetAside, AreSettled, Arrive, ArrivesAt, BeginsAt, Bool, Cancel, CancelsAt, CommitBegin, CommitDrop, CommitEnd, CommitTree, Core, Does, Drops, EndsJobOf, Entry, Err, Event, Evict, EvictsOne, Exports, Finish, FinishesIn, Freeze, FreezesIn, Grant, GrantsFirst, Import, ImportsExport, IsApplied, IsForwarded, IsLeft, IsLegalFrom, IsSound, IsSoundBehind, IsTableOf, Opening, StandsBehind, IsTakenOut, IsUnseen, KeepsSettled, KeptState, after_from, places_of, Leaf, List, MatchBool, TreeMayRefuse, Merge, MergesLeaves, None, NotAuthority, Ok, Op, Option, Prep, PrepsIn, Purge, Purges, Rank, Refusal, Request, Result, SavesTree, Send, SendsExport, Serve, ServesInbox, ServesRequest, Some, Split, SplitsLeaf, Start, StartsIn, State, Table, Tree, [], ap, append_assoc, append-nil, arith, drop, entry_of, false, first_waiting, inl, inr, length, length-append, list_any, nat_lt, told_nothing, refl, shown, subst, sym, take, told_job, true, waiting_at, with_entry, with_waiting, ℕ, ◌++◌, ◌+◌, ◌-◌, ◌<◌, ◌≤◌, ◌∙◌, ◌∷◌, ◌≡◌, ◌⊎◌, offer, cond, outcome_of, supply_of}
 use Rattle.mds_types.specs.History.{after, IsKeptAt, IsLegal, IsTrimmed, is_pair, mark}
 use Rattle.mds_types.specs.declared.ids.Ino.{Ino}
 use Rattle.mds_types.specs.declared.ids.Rank.{Rank as RankNumber}
@@ -169,7 +169,7 @@ keeps_whole before after may gone now count (inr (same, not, entry)) = inr (
 -- ---- a beginning is forgotten
 
 -- other sessions, that are those of the history
-sound_with : (opening : Opening) (history : List Entry) (core : Core) (sessions : Table) → IsTableOf history sessions → IsSound opening history core → IsSound opening history (with_sessions core sessions)
+pub sound_with : (opening : Opening) (history : List Entry) (core : Core) (sessions : Table) → IsTableOf history sessions → IsSound opening history core → IsSound opening history (with_sessions core sessions)
 sound_with opening history core sessions kept sound = record {
   legal = sound.legal;
   replayed = sound.replayed;

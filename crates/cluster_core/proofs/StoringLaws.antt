@@ -1,7 +1,7 @@
 -- What edits make of the rows that a store keeps.
 use Rattle.cluster_core.proofs.Common.{AreSupplied, Entry, IsGiven, IsUsedFrom, List, Opening, StandsBehind, Supply, [], ap, arith, drop, get_or, get_or_append_left, inl, inr, length, length-append, no_supply, refl, subst, suc, sym, zero, cases_lt, ℕ, ⊎_elim, ◌+◌, ◌++◌, ◌-◌, ◌<◌, ◌∙◌, ◌∷◌, ◌≡◌, ◌≤◌, ◌⊎◌}
 use Rattle.std.specs.Prelude.{Contains}
-use Rattle.std.proofs.lemmas.List.{get_or-append-add, get_or-drop, get_or_past}
+use Rattle.std.proofs.lemmas.List.{get_or-append-add, get_or-drop, get_or_past, get_or_push}
 use Rattle.inode_table.specs.Numbers.{IsSupply, end_number, first_number}
 use Rattle.keeping.specs.declared.rows.RowEdit.{RowEdit}
 use Rattle.keeping.specs.Rows.{SessionRows, edited}
@@ -65,6 +65,22 @@ module _ (opening : Opening) (history : List Entry) (numbers : List Supply) (nex
   spent n used (inl here) = inr (of_ranks n used here)
   spent n used (inr (inl root)) = inl root
   spent n used (inr (inr given)) = inr (given_still n used given)
+
+-- ---- the next numbers, rank by rank
+
+pub none_next : (numbers : List Supply) → AreNextOf 0 numbers []
+none_next numbers = record { as_many = refl; each = λ rank below. absurd (omega (arith, below)) }
+
+pub one_next : (count : ℕ) (numbers : List Supply) (nexts : List ℕ) (next : ℕ) → AreNextOf count numbers nexts → next ≡ (get_or numbers count no_supply).next → AreNextOf (count + 1) numbers (nexts ++ next ∷ [])
+one_next count numbers nexts next are is = record {
+  as_many = length-append nexts (next ∷ []) ∙ omega (arith, are.as_many);
+  each = λ rank below. ⊎_elim
+      (λ (low : rank < count). get_or_append_left nexts (next ∷ []) rank 0 (omega (arith, low, are.as_many)) ∙ are.each rank low)
+      (λ (high : count ≤ rank).
+      let last : rank ≡ count = omega (arith, below, high) in
+      rw last (get_or_push nexts next 0 count are.as_many ∙ is))
+      (cases_lt rank count);
+}
 
 -- ---- the rows
 
