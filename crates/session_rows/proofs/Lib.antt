@@ -3,6 +3,7 @@ pub mod KeptLaws
 pub mod KeyOrder
 pub mod RankLaws
 pub mod ReadLaws
+pub mod RestoreLaws
 pub mod RowLaws
 pub mod SessionSteps
 pub mod StoreLaws

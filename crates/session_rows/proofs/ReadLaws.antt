@@ -3,6 +3,7 @@ use Rattle.session_rows.proofs.Common.{Bool, IsRow, List, None, Option, Reply, R
 use Rattle.std.proofs.Common.{eq-eqb, eqb-true, get_or, is_some, map, set, ◌==◌}
 use Rattle.std.proofs.lemmas.Bool.{false≢true}
 use Rattle.std.proofs.lemmas.Grind.{get_or-set_at}
+use Rattle.std.specs.Prelude.{Err, Ok, OnOk, Result, is_err}
 use Rattle.std.proofs.lemmas.List.{get_or-set_other, length-set}
 use Rattle.std.specs.FinMap as finmap
 use Rattle.mds_types.specs.declared.ids.Ino.{Ino}
@@ -77,3 +78,8 @@ client_read client value old new row fits may s takes changed rows is =
       restored = takes is.stored is.restored;
       unchanged = changed ∙ is.unchanged;
     }
+
+-- what holds on success, where there is no error
+pub ok_of : {A E P : Type 0} (r : Result A E) (b : Bool) → b ≡ is_err r → b ≡ false → OnOk r P → P
+ok_of (Ok x) b is never p = p
+ok_of (Err e) b is never p = absurd (false≢true (sym never ∙ is))
