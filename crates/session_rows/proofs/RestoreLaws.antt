@@ -77,7 +77,7 @@ all_put : (rows : SessionRows) → with_pairs finmap.empty (finmap.entries rows)
 unfolding overlaid
 all_put rows = overlaid_none nat_list_cmp_total rows finmap.empty refl
 
-none_spelled : (nexts : List ℕ) → length nexts ≡ 16 → ((i : ℕ) → get_or nexts i 0 ≡ 0) → SpellsSessions finmap.empty [] nexts
+pub none_spelled : (nexts : List ℕ) → length nexts ≡ 16 → ((i : ℕ) → get_or nexts i 0 ≡ 0) → SpellsSessions finmap.empty [] nexts
 none_spelled nexts long none = record {
   clients = λ client fits. get-empty key_cmp (client_bytes client);
   ranks = λ rank low. get-empty key_cmp (rank_bytes rank) ∙ ap rank_value (sym (none rank.0));
