@@ -1,6 +1,6 @@
 -- Rows say one thing, and what they say is read again.
-use Rattle.session_rows.proofs.Common.{Bool, Err, IsRow, List, None, Ok, Option, Reply, Result, Row, RowFault, Some, SpellsRow, Told, [], ap, arith, cond, false, inl, inr, is_ok, length, little_bytes, none-some, refl, row_bytes, same_Some, subst, sym, true, ℕ, ◌<◌, ◌^◌, ◌∙◌, ◌∷◌, ◌⊎◌, ◌≡◌}
-use Rattle.std.proofs.Common.{eqb-true, get_or, map, ◌==◌}
+use Rattle.session_rows.proofs.Common.{Bool, Err, List, None, Option, Reply, Row, RowFault, Some, Told, [], ap, arith, cond, false, inl, inr, is_ok, little_bytes, none-some, refl, row_bytes, same_Some, sym, true, ℕ, ◌<◌, ◌^◌, ◌∙◌, ◌∷◌, ◌≡◌}
+use Rattle.std.proofs.Common.{eqb-true, map, ◌==◌}
 use Rattle.std.proofs.lemmas.Bool.{false≢true}
 use Rattle.std.proofs.lemmas.List.{ext_get_or}
 use Rattle.std.specs.FinMap as finmap
@@ -15,9 +15,9 @@ use Rattle.session_rows.proofs.RankLaws.{rank_again}
 use Rattle.session_rows.proofs.SessionSteps.{stored_next}
 use Rattle.session_rows.proofs.Walks.{no_row_spelled, one_row}
 use Rattle.session_rows.specs.ClientRows.{IsNoRow}
-use Rattle.session_rows.specs.Keys.{SpellsRowKey, client_bytes, rank_bytes}
-use Rattle.session_rows.specs.RankRows.{IsNextIno, ReadsRank, SpellsRank}
-use Rattle.session_rows.specs.Restoring.{IsReadOf, RefusesRow, RefusesRows}
+use Rattle.session_rows.specs.Keys.{SpellsRowKey}
+use Rattle.session_rows.specs.RankRows.{ReadsRank, SpellsRank}
+use Rattle.session_rows.specs.Restoring.{IsReadOf, RefusesRows}
 use Rattle.session_rows.specs.Sessions.{IsStorable, IsStoredNext, SpellsSessions, client_value, next_of, rank_value, row_of, told_of}
 use Rattle.session_rows.specs.declared.keys.Key.TheVariants.{Client, Rank}
 use Rattle.session_rows.specs.declared.restoring.Restored.{Restored}
@@ -70,9 +70,9 @@ one_next rank one x y (inr can) (inr could) same =
 pub one_nexts : ((rank : RankNumber) → HasOneMeaning (SpellsRank rank)) → (rows : SessionRows) (a b : List Stored) (m n : List ℕ) → SpellsSessions rows a m → SpellsSessions rows b n → m ≡ n
 one_nexts one rows a b m n s t =
     ext_get_or 0 m n (s.long ∙ sym t.long) (λ i low.
-        let rank : RankNumber = record { 0 = i } in
-        let few : i < 16 = omega (arith, low, s.long) in
-        one_next rank (one rank) (next_of m rank) (next_of n rank) (s.ranged rank few) (t.ranged rank few) (sym (s.ranks rank few) ∙ t.ranks rank few))
+    let rank : RankNumber = record { 0 = i } in
+    let few : i < 16 = omega (arith, low, s.long) in
+    one_next rank (one rank) (next_of m rank) (next_of n rank) (s.ranged rank few) (t.ranged rank few) (sym (s.ranks rank few) ∙ t.ranks rank few))
 
 -- ---- what is written is read again
 

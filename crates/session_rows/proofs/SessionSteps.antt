@@ -1,6 +1,6 @@
 -- Rows of what is stored, in which a client or a rank gets another value.
-use Rattle.session_rows.proofs.Common.{Bool, IsRow, List, None, Option, Some, [], ap, arith, cond, false, inr, length, little_bytes, refl, subst, sym, true, zero, suc, ℕ, ◌++◌, ◌+◌, ◌<◌, ◌^◌, ◌∙◌, ◌∷◌, ◌≡◌, ◌≤◌}
-use Rattle.std.proofs.Common.{eqb-true, get_or, ◌==◌}
+use Rattle.session_rows.proofs.Common.{Bool, List, None, Option, Some, ap, arith, cond, false, inr, length, little_bytes, refl, subst, sym, true, ℕ, ◌<◌, ◌^◌, ◌∙◌, ◌≡◌}
+use Rattle.std.proofs.Common.{eqb-true, ◌==◌}
 use Rattle.std.specs.Cmp.{unsigned_tied}
 use Rattle.std.specs.FinMap as finmap
 use Rattle.std.specs.FinMap.{get-insert, get-remove, nat_cmp-IsAntisymmetric, slice_cmp-IsAntisymmetric}
