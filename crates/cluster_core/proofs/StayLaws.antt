@@ -1,14 +1,11 @@
 -- Rows that tell all of a book but what changed do so behind each step.
-use Rattle.cluster_core.proofs.Common.{Answer, Core, Entry, Event, Ino, IsGiven, IsSupplied, IsUsedFrom, KeptState, List, None, Opening, Option, Refusal, Result, Some, StandsBehind, Steps, Supply, Table, [], ap, arith, cond, entries-empty, get-empty, false, fresh, get_or, inl, inr, length, ltb-true, nat_lt, no_supply, offer, refl, replicate, subst, sym, with_entry, ℕ, ⊎_elim, ◌++◌, ◌<◌, ◌∙◌, ◌∷◌, ◌≡◌, ◌≤◌, ◌⊎◌}
+use Rattle.cluster_core.proofs.Common.{Answer, Core, Entry, Event, Ino, IsGiven, IsSupplied, IsUsedFrom, KeptState, List, None, Opening, Option, Refusal, Result, Some, StandsBehind, Steps, Supply, Table, [], ap, arith, cond, entries-empty, false, fresh, get_or, inl, inr, length, ltb-true, nat_lt, no_supply, offer, refl, replicate, subst, sym, with_entry, ℕ, ⊎_elim, ◌++◌, ◌<◌, ◌∙◌, ◌∷◌, ◌≡◌, ◌≤◌, ◌⊎◌}
 use Rattle.std.specs.FinMap as map
 use Rattle.std.proofs.Common.{map as list_map}
 use Rattle.mds_types.specs.Tree.{numbers}
 use Rattle.inode_table.specs.Numbers.{end_number, first_number}
-use Rattle.std.proofs.lemmas.List.{get_or-replicate}
 use Rattle.keeping.specs.Rows.{SessionRows}
-use Rattle.objstore.specs.Omap.{key_cmp}
-use Rattle.session_rows.specs.Keys.{client_bytes, rank_bytes}
-use Rattle.session_rows.specs.Sessions.{SpellsSessions, rank_value}
+use Rattle.session_rows.specs.Sessions.{SpellsSessions}
 use Rattle.sessions.specs.Replies.{ArePairsOnce}
 use Rattle.sessions.specs.Restored.{IsStoredBut}
 use Rattle.sessions.specs.Table.{all_stored, with_changed}
@@ -91,20 +88,9 @@ kept_told rows opening past book told = record {
   numbers = λ n used. inr (told.numbers n used);
 }
 
--- no rows spell nothing stored
-none_spelled : SpellsSessions map.empty [] (replicate 16 0)
-none_spelled = record {
-  clients = λ client fits. get-empty key_cmp (client_bytes client);
-  ranks = λ rank low. get-empty key_cmp (rank_bytes rank) ∙ ap rank_value (sym (get_or-replicate 16 0 rank.0));
-  others = λ key no_key. get-empty key_cmp key;
-  storable = λ client. tt;
-  ranged = λ rank low. inl (get_or-replicate 16 0 rank.0);
-  long = refl;
-}
-
 -- a new book, over a store without rows
-pub new_told : NoRowsTellOfANewBook
-new_told core none = record {
+pub new_told : SpellsSessions map.empty [] (replicate 16 0) → NoRowsTellOfANewBook
+new_told none_spelled core none = record {
   stored = [];
   nexts = replicate 16 0;
   spelled = none_spelled;

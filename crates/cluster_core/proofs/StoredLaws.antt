@@ -14,9 +14,16 @@ use Rattle.cluster_core.specs.Opening.{StandIn}
 use Rattle.cluster_core.specs.Resumed.{resumes, supplies_from}
 use Rattle.cluster_core.proofs.RestartHistory.{one_history}
 
+-- what rows say, they say once
+abbrev pub OneContent : Type 0
+OneContent = (rows : SessionRows) (a b : List Stored) (m n : List ℕ) → SpellsSessions rows a m → SpellsSessions rows b n → (client : ℕ) → stored_of a client ≡ stored_of b client
+
+abbrev pub OneNexts : Type 0
+OneNexts = (rows : SessionRows) (a b : List Stored) (m n : List ℕ) → SpellsSessions rows a m → SpellsSessions rows b n → m ≡ n
+
 module _ (limit : ℕ) (opening : Opening) (history : List Entry) (rows : SessionRows) (stored : List Stored) (nexts : List ℕ) (table : Table)
     (legal : IsLegalFrom limit opening history) (told : Tells rows opening history)
-    (spelled : SpellsSessions rows stored nexts) (restored : IsRestored stored table) where
+    (spelled : SpellsSessions rows stored nexts) (restored : IsRestored stored table) (content : OneContent) (one_nexts : OneNexts) where
   abbrev tree : Tree
   tree = after_from limit opening history
 
@@ -24,11 +31,11 @@ module _ (limit : ℕ) (opening : Opening) (history : List Entry) (rows : Sessio
   next = resumes tree (stand_ins stored) nexts
 
   -- the stored sessions are those that the rows spell
-  abbrev same_clients : (client : ℕ) → stored_of told.stored client ≡ stored_of stored client
-  same_clients = (same_sessions rows told.stored stored told.nexts nexts told.spelled spelled).0
+  same_clients : (client : ℕ) → stored_of told.stored client ≡ stored_of stored client
+  same_clients = content rows told.stored stored told.nexts nexts told.spelled spelled
 
   same_nexts : told.nexts ≡ nexts
-  same_nexts = (same_sessions rows told.stored stored told.nexts nexts told.spelled spelled).1
+  same_nexts = one_nexts rows told.stored stored told.nexts nexts told.spelled spelled
 
   kept : IsStoredOf history stored
   kept = record {
@@ -62,5 +69,6 @@ module _ (limit : ℕ) (opening : Opening) (history : List Entry) (rows : Sessio
     legal = λ more. one_history limit opening next history (stand_ins stored) legal refl refl stands_in more;
   }
 
-pub go_on : StoredSessionsGoOn
-go_on limit opening history rows stored nexts table legal told spelled restored = continue limit opening history rows stored nexts table legal told spelled restored
+pub go_on : OneContent → OneNexts → StoredSessionsGoOn
+go_on content one_nexts limit opening history rows stored nexts table legal told spelled restored =
+    continue limit opening history rows stored nexts table legal told spelled restored content one_nexts

@@ -7,6 +7,8 @@ ghost use Rattle.cluster_core.specs.Opening.{BeginsAfresh, RestartsAreOneHistory
 ghost use Rattle.cluster_core.specs.Exporting.{ImportsWhatIsTold, TellsOneBytes, TellsWhatSendGave};
 ghost use Rattle.cluster_core.specs.Teeth.{OneThreadInventsNothing, OneThreadTellsAll};
 
+use session_rows::laws::sessions_are_spelled_once;
+
 /// While a commit is under way, whatever steps are made, the object of its fragment is the one of the moment at which
 /// the job was given out. The end of the commit therefore spells what the fragment showed at that moment.
 pub fn jobs_keep_objects()
@@ -72,7 +74,9 @@ pub fn restarts_are_one_history()
 /// legal behind the stand-ins is legal behind the history.
 pub fn stored_sessions_go_on()
     ensures { StoredSessionsGoOn }
-{}
+{
+    sessions_are_spelled_once();
+}
 
 /// Rows that tell all of a book's sessions but those of the changed clients do so from its beginning on, whatever it
 /// does: a store without rows at a new book, any rows behind a step, and the rows that `Book::keep` made.
@@ -80,4 +84,6 @@ pub fn rows_stay_told()
     ensures start { NoRowsTellOfANewBook }
     ensures stepped { StepsStayTold }
     ensures kept { KeptStaysTold }
-{}
+{
+    sessions_are_spelled_once();
+}

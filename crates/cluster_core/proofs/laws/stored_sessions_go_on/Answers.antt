@@ -3,4 +3,4 @@ use Rattle.cluster_core.proofs.StoredLaws.{go_on}
 use Rattle.cluster_core.proofs.laws.stored_sessions_go_on.Goals as goal
 
 pub returns : goal.returns
-returns c = go_on
+returns c = go_on c.sessions_are_spelled_once.ensures.content c.sessions_are_spelled_once.ensures.nexts
