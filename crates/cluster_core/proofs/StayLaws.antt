@@ -1,7 +1,10 @@
 -- Rows that tell all of a book but what changed do so behind each step.
 use Rattle.cluster_core.proofs.Common.{Answer, Core, Entry, Event, Ino, IsGiven, IsSupplied, IsUsedFrom, KeptState, List, None, Opening, Option, Refusal, Result, Some, StandsBehind, Steps, Supply, Table, [], ap, arith, cond, entries-empty, false, fresh, get_or, inl, inr, length, ltb-true, nat_lt, no_supply, offer, refl, replicate, subst, sym, with_entry, ℕ, ⊎_elim, ◌++◌, ◌<◌, ◌∙◌, ◌∷◌, ◌≡◌, ◌≤◌, ◌⊎◌}
 use Rattle.std.specs.FinMap as map
-use Rattle.std.proofs.Common.{map as list_map}
+use Rattle.std.proofs.Common.{Bool, map as list_map, true}
+use Rattle.std.specs.Ordering.{nat_cmp}
+use Rattle.sorted_map.specs.SortedMap.{is_from}
+use Rattle.mds_types.specs.declared.replies.Reply.{Reply}
 use Rattle.mds_types.specs.Tree.{numbers}
 use Rattle.inode_table.specs.Numbers.{end_number, first_number}
 use Rattle.keeping.specs.Rows.{SessionRows}
@@ -95,10 +98,14 @@ new_told none_spelled core none = record {
   nexts = replicate 16 0;
   spelled = none_spelled;
   once = λ k e below. absurd (omega (arith, below));
-  clients = record { marks = λ client still. refl; replies = λ client tid still. refl };
+  clients = record { marks = λ client still. refl; replies = λ client tid still. sym (both_none (is_from nat_cmp 0 tid)) };
   numbers = λ n used. first n used;
 }
   where
+    both_none : (b : Bool) → cond {A = Option Reply} b None None ≡ None
+    both_none true = refl
+    both_none false = refl
+
     first : (n : ℕ) → IsUsedFrom (fresh map.empty) [] n → IsOfRanks (length core.state.numbers) n ⊎ IsSpent (replicate 16 0) n
     first n (inl (s, (k, below, is), _, _, _)) = absurd (omega (arith, below))
     first n (inr (inl root)) = inr (inl root)
