@@ -23,7 +23,7 @@ pub unprepared : (old : Ranked) (op : Op) (change : Change) (n : ℕ) (outcome :
 unprepared old op change n outcome offered Holds reason checked why = record { kept = go why; because = told why }
   where
     itself : faults_in reason ≡ 0 → KeepsRanked old old op (Some reason)
-    itself none = record { tree = keeps_refused old.tree old.tree reason none (keeps_itself old.tree); roots = refl; exports = refl; reads = stays }
+    itself none = record { tree = keeps_refused old.tree old.tree reason none (keeps_itself old.tree); roots = refl; exports = refl; reads = (None, λ none. refl, stays) }
 
     go : WhyUnprepared change offered reason → KeepsRanked old old op (Some reason)
     go (inl memory) = itself (ap faults_in memory)
