@@ -2,7 +2,7 @@
 ghost use Rattle.cluster_core.specs.Checks.{MergesByChecks, SplitsByChecks};
 ghost use Rattle.cluster_core.specs.Commits.{JobsKeepObjects, JobsTakeWhatIsShown};
 ghost use Rattle.cluster_core.specs.Forgetting.{ABeginningMayGo, AllIsOneHistory, NoneIsNewAgain};
-ghost use Rattle.cluster_core.specs.KeptSessions.{KeptStaysTold, NoRowsTellOfANewBook, StepsStayTold, StoredSessionsGoOn};
+ghost use Rattle.cluster_core.specs.KeptSessions.{KeptStaysTold, NoRowsTellOfANewBook, StepsStayTold, StoredSessionsGoOn, ToldOfStandIns};
 ghost use Rattle.cluster_core.specs.Opening.{BeginsAfresh, RestartsAreOneHistory};
 ghost use Rattle.cluster_core.specs.Exporting.{ImportsWhatIsTold, TellsOneBytes, TellsWhatSendGave};
 ghost use Rattle.cluster_core.specs.Teeth.{OneThreadInventsNothing, OneThreadTellsAll};
@@ -71,9 +71,10 @@ pub fn restarts_are_one_history()
 
 /// What a store keeps of sessions is enough to go on from: if rows tell all of a history, then the stand-ins of what
 /// they spell continue it. A repeat of a request that the history keeps is answered as before, or is too old. What is
-/// legal behind the stand-ins is legal behind the history.
+/// legal behind the stand-ins is legal behind the history. And the rows tell all of the stand-ins.
 pub fn stored_sessions_go_on()
-    ensures { StoredSessionsGoOn }
+    ensures goes_on { StoredSessionsGoOn }
+    ensures told { ToldOfStandIns }
 {
     sessions_are_spelled_once();
 }
