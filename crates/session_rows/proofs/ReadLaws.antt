@@ -1,5 +1,5 @@
 -- One row more is read.
-use Rattle.session_rows.proofs.Common.{Bool, IsRow, List, None, Option, Row, Some, SpellsRow, Told, [], ap, arith, cond, false, length, none-some, refl, row_bytes, subst, sym, true, ℕ, ◌++◌, ◌<◌, ◌^◌, ◌∙◌, ◌∷◌, ◌≡◌}
+use Rattle.session_rows.proofs.Common.{inr, Bool, IsRow, List, None, Option, Row, Some, SpellsRow, Told, [], ap, arith, cond, false, length, none-some, refl, row_bytes, subst, sym, true, ℕ, ◌++◌, ◌<◌, ◌^◌, ◌∙◌, ◌∷◌, ◌≡◌}
 use Rattle.std.proofs.Common.{eq-eqb, eqb-true, get_or, is_some, map, set, ◌==◌}
 use Rattle.std.proofs.lemmas.Bool.{false≢true}
 use Rattle.std.proofs.lemmas.Grind.{get_or-set_at}
@@ -14,9 +14,10 @@ use Rattle.sessions.specs.Stored.{Stored, stored_of}
 use Rattle.session_rows.proofs.SessionSteps.{client_set, rank_set}
 use Rattle.session_rows.specs.Keys.{client_bytes, rank_bytes}
 use Rattle.session_rows.specs.RankRows.{SpellsRank}
-use Rattle.session_rows.specs.Restoring.{MayRead, MayTake, ReadsMore, TakesRow, stored_from}
+use Rattle.session_rows.specs.Restoring.{MayRead, MayTake, ReadsMore, RefusesRow, TakesRow, stored_from}
 use Rattle.session_rows.specs.Sessions.{SpellsSessions, client_value, next_of, row_of, told_of}
 use Rattle.session_rows.specs.declared.restoring.Restored.{Restored}
+use Rattle.session_rows.specs.declared.rows_faults.RowsFault.TheVariants.{NoMemory}
 
 -- ---- a rank
 
@@ -82,3 +83,7 @@ client_read client value old new row fits may s takes changed rows is =
 pub ok_of : {A E P : Type 0} (r : Result A E) (b : Bool) → b ≡ is_err r → b ≡ false → OnOk r P → P
 ok_of (Ok x) b is never p = p
 ok_of (Err e) b is never p = absurd (false≢true (sym never ∙ is))
+
+-- memory is wanting for a row that was read
+pub row_wanting : (client : ℕ) (value : List ℕ) (row : Row) → client < 2 ^ 64 → SpellsRow value row → RefusesRow (client_bytes client) value NoMemory
+row_wanting client value row fits s = (client, record { known = fits; spelled = refl }, inr (row, s))

@@ -49,9 +49,9 @@ pub fn rank_rows_are_spelled_once()
         → SpellsRank rank bytes next → ReadsRank rank bytes answer → answer ≡ Ok next }
 {}
 
-/// Rows say one thing: what is stored of each client, and the next number of each rank. No rows say that nothing is
-/// stored. What rows say is restored, unless memory is wanting: what was stored of a history is what the history keeps
-/// of each client.
+/// Rows have one meaning: they tell how each client is stored, and each rank's next number. Where there are no rows
+/// nothing is stored. Rows that were written are restored unless memory is wanting, and then the sessions are those of
+/// the history that was stored.
 pub fn sessions_are_spelled_once()
     ensures content { (rows : SessionRows) (a b : List Stored) (m n : List ℕ) → SpellsSessions rows a m
         → SpellsSessions rows b n → (client : ℕ) → stored_of a client ≡ stored_of b client }

@@ -7,7 +7,8 @@
 //!   bytes, the length of the reply's bytes in 4, and the bytes of `reply_codec`.
 //! - a rank. Its key is its number in 1 byte. Its value is the inode number that it hands out next, in 8 bytes.
 //!
-//! All numbers but a client's key are little endian.
+//! All numbers but a client's key are little endian. `edits_of` stores the sessions that changed and the next inode
+//! numbers, and `restore` reads all rows.
 #![tactic(auto)]
 
 mod client_rows;

@@ -1,4 +1,4 @@
-//! Sessions and next inode numbers that are read from the rows that a store kept.
+//! Sessions and next inode numbers, restored from the rows that a store kept.
 ghost use Rattle.std.specs.Prelude.{◌≡◌, ◌<◌, ◌≤◌, None, true, is_some, IfErr, IfOk, OnOk};
 ghost use Rattle.std.specs.FinMap as map;
 ghost use Rattle.sessions.specs.Restored.{TakesClient, TakesReply};
@@ -19,15 +19,15 @@ use objstore::Pairs;
 use sessions::{Sessions, Unfit};
 use std::alloc::{AllocError, Global};
 
-/// What rows keep: the sessions, and by rank the inode number that it hands out next, 0 for a rank without a row.
+/// The sessions that rows keep, and by rank the inode number that it hands out next: 0 for a rank without a row.
 #[derive(Debug, Drop)]
 pub struct Restored {
     pub sessions: Sessions,
     pub nexts: [u64; 16],
 }
 
-/// The sessions and the next inode numbers that these rows keep. Refused where a row is damaged, and the fault names it.
-/// Takes memory for the sessions alone. No client counts as changed.
+/// Restores the sessions and the next inode numbers that these rows keep. Refused where a row is damaged: the fault
+/// names that row. Takes memory for the sessions alone. No client counts as changed.
 pub fn restore(alloc: Global, rows: &Pairs) -> Result<Restored, RowsFault>
     ensures { RestoresRows rows.now result }
 {

@@ -1,4 +1,4 @@
-//! The edits of rows that store what changed.
+//! Edits of rows that store the changed sessions and the next inode numbers.
 ghost use Rattle.std.specs.Prelude.{◌≡◌, ◌++◌, [], List, Some, map, IfOk};
 ghost use Rattle.byteorder.specs.Endian.{little_bytes};
 ghost use Rattle.mds_types.specs.declared.entries.Entry.{Entry as Applied};
@@ -17,8 +17,9 @@ use mds_types::{Bytes, Entry, Ino, Rank};
 use sessions::{ClientKept, Sessions};
 use std::alloc::{AllocError, Global};
 
-/// The edits that store what is kept of each changed client, and the inode number that each of the first ranks hands
-/// out next, in the order of ranks. `history` has the entries that aren't forgotten. Takes memory for the edits.
+/// The edits that store the session of each changed client, in the order of `changed`, and then the inode number that
+/// each of the first ranks hands out next. Rows of other clients and ranks stay. `history` has the entries that aren't
+/// forgotten. Takes memory for the edits.
 pub fn edits_of(
     alloc: Global,
     sessions: &Sessions,
@@ -38,7 +39,7 @@ pub fn edits_of(
     Ok(edits)
 }
 
-// The edits that store what is kept of each changed client.
+// The edits that store the session of each changed client.
 fn client_edits(
     alloc: Global,
     sessions: &Sessions,
@@ -56,7 +57,7 @@ fn client_edits(
     Ok(edits)
 }
 
-// The edit that stores what is kept of a client: its row, or no row where the client isn't there.
+// The edit that stores a client's session: it writes the client's row, or removes it where the client isn't there.
 fn client_edit(
     alloc: Global,
     sessions: &Sessions,
@@ -78,7 +79,7 @@ fn client_edit(
     Ok(RowEdit { key, value })
 }
 
-// The value of the row of a client of which this is kept.
+// The value of the row of a client with this mark and these replies.
 fn row_value(alloc: Global, kept: ClientKept<'_>) -> Result<Bytes, AllocError>
     requires { Ascend kept.mark (map told_of kept.replies) }
     ensures { IfOk result
