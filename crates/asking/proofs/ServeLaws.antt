@@ -1,5 +1,5 @@
 -- What a step that serves gives, by its answer.
-use Rattle.asking.proofs.Common.{Answer, Bool, false, Goes, IsOfServe, Replied, Served, ServesTo, Waits, told_of, Core, Deferred, Entry, Err, Forwarded, IsApplied, IsDeferred, IsForwarded, IsRepeated, KeepsUnclean, List, MatchBool, NoneEnds, Ok, Op, Rank, ReadsOp, Receipt, Refusal, RefusesRequest, Reply, Request, Result, Serve, ServesInbox, ServesRequest, Steps, TreeMayRefuse, UsesRequest, UsesStep, ap, held_roots, refl, ◌∙◌, inl, inr, length, lt-ltb, nat_lt, reads_unclean_of, subst, sym, told_as, true, waiting_at, ◌∷◌, ◌≡◌, ◌⊎◌, None, Option, Some, ℕ}
+use Rattle.asking.proofs.Common.{Answer, Bool, false, Goes, IsOfServe, Replied, Served, ServesTo, Waits, told_of, Core, Deferred, Entry, Err, Forwarded, IsApplied, IsDeferred, IsForwarded, IsRepeated, KeepsUnclean, List, MatchBool, NoneEnds, Ok, Op, Rank, ReadsOp, Receipt, Refusal, RefusesRequest, Reply, Request, Result, Serve, ServesInbox, ServesRequest, Steps, TreeMayRefuse, UsesRequest, UsesStep, ap, held_roots, refl, ◌∙◌, inl, inr, length, lt-ltb, nat_lt, reads_unclean_of, subst, sym, told_as, true, waiting_at, ◌∷◌, ◌≡◌, ◌⊎◌, None, Option}
 use Rattle.cluster_core.specs.Uses.{Asks as AsksFor, UsesFront}
 use Rattle.cluster_core.specs.Serve.{entry_of}
 use Rattle.dentry_cache.specs.CacheMap.{CacheMap, unclean_of}

@@ -1,7 +1,7 @@
 -- What was asked, and what was forgotten behind it.
 use Rattle.asking.proofs.Common.{Core, ap, ◌∙◌}
 use Rattle.asking.proofs.AmongLaws.{none_from_all, none_in_all}
-use Rattle.asking.proofs.ServiceLaws.{goes_on_as_one, ordered_still, places_stay}
+use Rattle.asking.proofs.ServiceLaws.{goes_on_as_one, ordered_still}
 use Rattle.asking.specs.Drain.{waiting_in_all}
 use Rattle.cluster_core.specs.Forgetting.{Forgets}
 use Rattle.asking.proofs.services.Service.ask_through.Goals as goal
