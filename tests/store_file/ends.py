@@ -99,13 +99,16 @@ def numbers(program, folder):
     run.process.kill()
     run.close()
     wants([it[0] for it in told(8, went(program, path, ['lookup 1 b', 'lookup 1 c']))] == ['entry', 'errno'], 'the run behind a kill')
-    base = sqlite3.connect(path)
-    base.execute('UPDATE session_map SET value = ? WHERE key = ?', ((2**64 - 3).to_bytes(8, 'little'), bytes(8)))
-    base.commit()
+    last = os.path.join(folder, 'last')
+    base, changed = sqlite3.connect(path), sqlite3.connect(last)
+    changed.executescript('\n'.join(base.iterdump()))
+    changed.execute('UPDATE session_map SET value = ? WHERE key = ?', ((2**64 - 3).to_bytes(8, 'little'), bytes(8)))
+    changed.commit()
     base.close()
-    for line, some in ((2, [2**64 - 2]), (1, [])):
-        status, printed, why = ran(program, path, ['lookup 1 d'] * 3)
-        wants((status, why, len(printed)) == (1, f'line {line}: read fault\n', len(some)), f'the last numbers: {status}, {printed}, {why}')
+    changed.close()
+    for line in (2, 1):
+        status, printed, why = ran(program, last, ['lookup 1 d'] * 3)
+        wants((status, len(printed), why) == (1, line - 1, f'line {line}: read fault\n'), f'the last numbers: {status}, {printed}, {why}')
         told(2**64 - 2, printed)
 
 
@@ -117,7 +120,7 @@ def serve(program, folder):
         done = subprocess.run([program, 'serve', *words, '--store', path], capture_output=True, text=True)
         came = done.returncode, done.stdout.splitlines(), done.stderr
         wants(came == ((0, ['served 12', 'audit ok', *paths], '') if run == 0 else
-                       (1, [], f'cephmeta: {path}: has a tree, and serve begins with an empty one\n')), f'run {run} of serve: {came}')
+                       (1, [], f'cephmeta: {path}: has a tree or sessions, and serve begins with an empty tree and none\n')), f'run {run} of serve: {came}')
         wants(log_of(path) is None, f'run {run} of serve leaves a log')
         tree = tree_of(rows_of(path, log=False))
         folders = {inode.ino: name.decode() for (above, name), inode in tree.items() if inode.kind == 'dir'}
