@@ -445,13 +445,16 @@ module _ (sent : List Request) where
           as_told sent old new printed [] (ap receipt_in h.shown ∙ (ap (λ (r : Result Receipt Refusal). receipt_in (asked_line r)) is)) (subst IsSoundKept (sym same) ready.0) (served_same sent old.book new.book same ready.1)
 
 -- a flush that is kept
-saved_silent : (result : Result (Unit {0}) Refusal) (printed : OutputLine) → SaysSaved result printed → receipt_in printed ≡ []
-saved_silent (Ok done) printed (inl is) = ap receipt_in is
-saved_silent (Ok done) printed (inr (why, is)) = ap receipt_in is
-saved_silent (Err refusal) printed is = ap receipt_in is
+saved_silent : (book new : KeptState) (result : Result (Unit {0}) Refusal) (printed : OutputLine) → SaysSaved book new result printed → receipt_in printed ≡ []
+saved_silent book new (Ok done) printed (inl (is, _)) = ap receipt_in is
+saved_silent book new (Ok done) printed (inr (why, is, _)) = ap receipt_in is
+saved_silent book new (Err refusal) printed (is, _) = ap receipt_in is
 
-saves : (sent : List Request) (old new : Admin) (printed : OutputLine) → IsReady sent old → SavesLine old new printed → DidLine sent old new printed
-saves sent old new printed ready h = as_told sent old new printed [] (saved_silent h.result printed h.shown) h.flushed.sound (flushed sent old.book new.book h.result ready.1 h.flushed)
+-- and the book that it leaves
+saved_book : (book new : KeptState) (result : Result (Unit {0}) Refusal) (printed : OutputLine) → SaysSaved book new result printed → (new ≡ with_stored book) ⊎ (new ≡ book)
+saved_book book new (Ok done) printed (inl (_, is)) = inl is
+saved_book book new (Ok done) printed (inr (_, _, is)) = inr is
+saved_book book new (Err refusal) printed (_, is) = inr is
 
 either_way : {P : Type 0} (b : Bool) (A B : Type 0) → (A → P) → (B → P) → MatchBool b A B → P
 either_way true A B f g h = f h

@@ -71,10 +71,11 @@ pub record AsksLine (old new : KeptState) (rank : Rank) (request : Asked) (line 
 
 -- ---- a flush that is kept
 
--- the line of a flush, where the file may refuse to keep it
-abbrev pub SaysSaved : Result (Unit {0}) Refusal → OutputLine → Type 0
-SaysSaved (Ok done) line = (line ≡ Flushed) ⊎ ((why : Unkept) × (line ≡ Unsaved why))
-SaysSaved (Err refusal) line = line ≡ Refused refusal
+-- the line of a flush, and the book behind it: the file keeps the sessions too, or refuses to keep the flush
+abbrev pub SaysSaved : (flushed new : KeptState) → Result (Unit {0}) Refusal → OutputLine → Type 0
+SaysSaved flushed new (Ok done) line = ((line ≡ Flushed) × (new ≡ with_stored flushed))
+    ⊎ ((why : Unkept) × (line ≡ Unsaved why) × (new ≡ flushed))
+SaysSaved flushed new (Err refusal) line = (line ≡ Refused refusal) × (new ≡ flushed)
 
 -- the book was flushed, and the file was told to keep that; no job is kept any more, unless an export exists
 pub record SavesLine (old new : Admin) (line : OutputLine) : Type 0 where
@@ -82,8 +83,9 @@ pub record SavesLine (old new : Admin) (line : OutputLine) : Type 0 where
   pub result : Result (Unit {0}) Refusal
   pub jobs : new.jobs ≡ cond (is_hindered result) old.jobs map.empty
   pub sent : new.sent ≡ old.sent
-  pub flushed : IsFlush old.book new.book result
-  pub shown : SaysSaved result line
+  pub book : KeptState
+  pub flushed : IsFlush old.book book result
+  pub shown : SaysSaved book new.book result line
 
 -- ---- a command
 

@@ -227,10 +227,18 @@ impl<S: Keep + Drop> Service<S> {
     /// Keeps the content of the store so that it outlives the process, as `Book::keep` does. The results are the store
     /// before and after, for contracts alone.
     pub fn keep(&mut self) -> Result<(Snapshot<S>, Snapshot<S>), Unkept>
-        ensures same { self.new.book ≡ self.old.book }
+        ensures stored { OnOk result (self.new.book ≡ with_stored self.old.book) }
+        ensures same { OnErr result (self.new.book ≡ self.old.book) }
+        ensures sessions { S.has_rows ≡ true
+            → IfOk result (λ s. KeepsSessions self.old.book (λ edits. S.Takes s.0.value edits s.1.value)) }
+        ensures goes_on { (opening : Opening) (past : List Applied) → StandsBehind opening past self.old.book
+            → StandsBehind opening past self.new.book }
         ensures failed { IfErr result (λ _. S.may_fail) }
     {
-        self.book.keep()
+        match self.book.keep() {
+            Ok(stores) => Ok(stores),
+            Err(why) => Err(why),
+        }
     }
 
     /// Gathers all that was kept in one place, at the end of a run.

@@ -1,6 +1,7 @@
 -- What is forgotten stays so at every step, and what is kept of it is set aside.
-use Rattle.cluster_core.proofs.Common.{Administers, Answer, AreCached, AreExported, AreRanks, AreSetAside, AreSettled, Arrive, ArrivesAt, BeginsAt, Bool, Cancel, CancelsAt, CommitBegin, CommitDrop, CommitEnd, CommitTree, Core, Does, Drops, EndsJobOf, Entry, Err, Event, Evict, EvictsOne, Exports, Finish, FinishesIn, Freeze, FreezesIn, Grant, GrantsFirst, Import, ImportsExport, IsApplied, IsForwarded, IsLeft, IsLegalFrom, IsSound, IsSoundBehind, IsTableOf, Opening, StandsBehind, IsTakenOut, IsUnseen, KeepsSettled, KeptState, after_from, places_of, Leaf, List, MatchBool, TreeMayRefuse, Merge, MergesLeaves, None, NotAuthority, Ok, Op, Option, Prep, PrepsIn, Purge, Purges, Rank, Refusal, Request, Result, SavesTree, Send, SendsExport, Serve, ServesInbox, ServesRequest, Some, Split, SplitsLeaf, Start, StartsIn, State, Table, Tree, [], ap, append_assoc, append-nil, arith, drop, entry_of, false, first_waiting, inl, inr, length, length-append, list_any, nat_lt, told_nothing, refl, shown, subst, sym, take, told_job, true, waiting_at, with_entry, with_waiting, ℕ, ◌++◌, ◌+◌, ◌-◌, ◌<◌, ◌≤◌, ◌∙◌, ◌∷◌, ◌≡◌, ◌⊎◌}
+use Rattle.cluster_core.proofs.Common.{Administers, Answer, AreCached, AreExported, AreRanks, AreSetAside, AreSettled, Arrive, ArrivesAt, BeginsAt, Bool, Cancel, CancelsAt, CommitBegin, CommitDrop, CommitEnd, CommitTree, Core, Does, Drops, EndsJobOf, Entry, Err, Event, Evict, EvictsOne, Exports, Finish, FinishesIn, Freeze, FreezesIn, Grant, GrantsFirst, Import, ImportsExport, IsApplied, IsForwarded, IsLeft, IsLegalFrom, IsSound, IsSoundBehind, IsTableOf, Opening, StandsBehind, IsTakenOut, IsUnseen, KeepsSettled, KeptState, after_from, places_of, Leaf, List, MatchBool, TreeMayRefuse, Merge, MergesLeaves, None, NotAuthority, Ok, Op, Option, Prep, PrepsIn, Purge, Purges, Rank, Refusal, Request, Result, SavesTree, Send, SendsExport, Serve, ServesInbox, ServesRequest, Some, Split, SplitsLeaf, Start, StartsIn, State, Table, Tree, [], ap, append_assoc, append-nil, arith, drop, entry_of, false, first_waiting, inl, inr, length, length-append, list_any, nat_lt, told_nothing, refl, shown, subst, sym, take, told_job, true, waiting_at, with_entry, with_waiting, ℕ, ◌++◌, ◌+◌, ◌-◌, ◌<◌, ◌≤◌, ◌∙◌, ◌∷◌, ◌≡◌, ◌⊎◌, offer, cond, outcome_of, supply_of}
 use Rattle.mds_types.specs.History.{after, IsKeptAt, IsLegal, IsTrimmed, is_pair, mark}
+use Rattle.mds_types.specs.declared.ids.Ino.{Ino}
 use Rattle.mds_types.specs.declared.ids.Rank.{Rank as RankNumber}
 use Rattle.sessions.proofs.AsideLaws.{aside_push, forgot_all}
 use Rattle.sessions.specs.Aside.{forget_all}
@@ -18,20 +19,28 @@ places_behind opening past book goes = length-append past book.history ∙ ap (�
 
 -- ---- a step
 
--- a new request was applied, and is noted with the place of its entry
-record IsNotedLast (past now : List Entry) (known sessions : Table) : Type 0 where
-  entry : Entry
-  fresh : list_any (is_pair entry.client entry.tid) past ≡ false
-  grown : now ≡ past ++ entry ∷ []
-  noted : sessions ≡ with_entry known (length past) entry
+-- a new request was applied at a rank, and is noted with the place of its entry
+pub record IsNotedLast (past now : List Entry) (old : State) (sessions : Table) : Type 0 where
+  pub entry : Entry
+  pub fresh : list_any (is_pair entry.client entry.tid) past ≡ false
+  pub grown : now ≡ past ++ entry ∷ []
+  pub noted : sessions ≡ with_entry old.sessions (length past) entry
+  pub rank : RankNumber
+  pub there : nat_lt rank.0 (length old.inboxes) ≡ true
+  pub number : (n : Ino) → entry.number ≡ Some n → offer (supply_of old rank) ≡ Some n
 
 -- what becomes of the history and of the sessions: nothing, or that
-abbrev GrowsByOne : (past now : List Entry) → (known sessions : Table) → Type 0
-GrowsByOne past now known sessions = ((now ≡ past) × (sessions ≡ known)) ⊎ IsNotedLast past now known sessions
+abbrev pub GrowsByOne : (past now : List Entry) → (old : State) → (sessions : Table) → Type 0
+GrowsByOne past now old sessions = ((now ≡ past) × (sessions ≡ old.sessions)) ⊎ IsNotedLast past now old sessions
+
+-- a number that an entry has was offered
+offered_by : (takes : Bool) (given : Option Ino) (n : Ino) → cond {A = Option Ino} takes given None ≡ Some n → given ≡ Some n
+offered_by true given n is = is
+offered_by false given n is = cc
 
 module _ (past now : List Entry) (old new : Core) where
   abbrev Grows : Type 0
-  Grows = GrowsByOne past now old.state.sessions new.state.sessions
+  Grows = GrowsByOne past now old.state new.state.sessions
 
   left : IsLeft old.state new.state past now → Grows
   left h = inl (h.same, ap (λ (s : State). s.sessions) h.left)
@@ -46,12 +55,20 @@ module _ (past now : List Entry) (old new : Core) where
   arrived rank request (Ok answer) h = inl (h.3, ap (λ (s : State). s.sessions) h.2)
   arrived rank request (Err reason) h = left h.2
 
-  applied : (rank : Rank) (request : Request) (rest : List Request) (answer : Answer) → IsApplied old.state new.state past now rank request rest answer → Grows
-  applied rank request rest answer h = inr (record { entry = entry_of old.state rank request; fresh = h.is_new.absent; grown = h.appended; noted = ap (λ (s : State). s.sessions) h.left })
+  applied : (rank : Rank) → nat_lt rank.0 (length old.state.inboxes) ≡ true → (request : Request) (rest : List Request) (answer : Answer) → IsApplied old.state new.state past now rank request rest answer → Grows
+  applied rank there request rest answer h = inr (record {
+    entry = entry_of old.state rank request;
+    fresh = h.is_new.absent;
+    grown = h.appended;
+    noted = ap (λ (s : State). s.sessions) h.left;
+    rank = rank;
+    there = there;
+    number = offered_by (outcome_of old.state rank request).takes (offer (supply_of old.state rank));
+  })
 
-  module _ (TreeMayRefuse : Op → Refusal → Type 0) (rank : Rank) where
+  module _ (TreeMayRefuse : Op → Refusal → Type 0) (rank : Rank) (there : nat_lt rank.0 (length old.state.inboxes) ≡ true) where
     served : (request : Request) (rest : List Request) (result : Result Answer Refusal) → ServesRequest old.state new.state past now TreeMayRefuse rank request rest result → Grows
-    served request rest (Ok answer) (inl h) = applied rank request rest answer h
+    served request rest (Ok answer) (inl h) = applied rank there request rest answer h
     served request rest (Ok answer) (inr (inl h)) = out rank request rest h.out
     served request rest (Ok answer) (inr (inr (inl h))) = inl (h.same, ap (λ (s : State). s.sessions) h.left)
     served request rest (Ok answer) (inr (inr (inr h))) = inl (h.same, ap (λ (s : State). s.sessions) h.left)
@@ -86,24 +103,24 @@ module _ (past now : List Entry) (old new : Core) where
   imported leaf bytes (Ok answer) h = inl (h.2.same, ap (λ (s : State). s.sessions) h.2.left)
   imported leaf bytes (Err reason) h = left h.1
 
-  at_rank : (here : Bool) (result : Result Answer Refusal) {done : Type 0} → (done → Grows) → MatchBool here done ((result ≡ Err NotAuthority) × (new ≡ old) × (now ≡ past)) → Grows
-  at_rank true result go h = go h
+  at_rank : (here : Bool) (result : Result Answer Refusal) {done : Type 0} → (here ≡ true → done → Grows) → MatchBool here done ((result ≡ Err NotAuthority) × (new ≡ old) × (now ≡ past)) → Grows
+  at_rank true result go h = go refl h
   at_rank false result go h = inl (h.2, ap (λ (c : Core). c.state.sessions) h.1)
 
-  grows_by_one : (result : Result Answer Refusal) (event : Event) → Does old new past now result event → Grows
-  grows_by_one result (Arrive rank request) h = at_rank (nat_lt rank.0 (length old.state.inboxes)) result (λ w. arrived rank request result w) h
-  grows_by_one result (Serve rank) h = at_rank (nat_lt rank.0 (length old.state.inboxes)) result (λ w. served_inbox (TreeMayRefuse old new) rank result (waiting_at old.state.inboxes rank) w) h
-  grows_by_one result (Grant rank client tid) h = at_rank (nat_lt rank.0 (length old.state.inboxes)) result (λ w. granted (TreeMayRefuse old new) rank client tid result (first_waiting client tid old.state.inboxes) w) h
-  grows_by_one result (Split rank dir f nb) h = at_rank (nat_lt rank.0 (length old.state.inboxes)) result (λ w. administered told_nothing (SplitsLeaf old new rank dir f nb) result w) h
-  grows_by_one result (Merge rank dir f) h = at_rank (nat_lt rank.0 (length old.state.inboxes)) result (λ w. administered told_nothing (MergesLeaves old new rank dir f) result w) h
-  grows_by_one result (CommitBegin rank dir f) h = at_rank (nat_lt rank.0 (length old.state.inboxes)) result (λ done. administered told_job (BeginsAt old.state new.state rank (dir, f)) result done.0) h
+  pub grows_by_one : (result : Result Answer Refusal) (event : Event) → Does old new past now result event → Grows
+  grows_by_one result (Arrive rank request) h = at_rank (nat_lt rank.0 (length old.state.inboxes)) result (λ is w. arrived rank request result w) h
+  grows_by_one result (Serve rank) h = at_rank (nat_lt rank.0 (length old.state.inboxes)) result (λ is w. served_inbox (TreeMayRefuse old new) rank is result (waiting_at old.state.inboxes rank) w) h
+  grows_by_one result (Grant rank client tid) h = at_rank (nat_lt rank.0 (length old.state.inboxes)) result (λ is w. granted (TreeMayRefuse old new) rank client tid result (first_waiting client tid old.state.inboxes) w) h
+  grows_by_one result (Split rank dir f nb) h = at_rank (nat_lt rank.0 (length old.state.inboxes)) result (λ is w. administered told_nothing (SplitsLeaf old new rank dir f nb) result w) h
+  grows_by_one result (Merge rank dir f) h = at_rank (nat_lt rank.0 (length old.state.inboxes)) result (λ is w. administered told_nothing (MergesLeaves old new rank dir f) result w) h
+  grows_by_one result (CommitBegin rank dir f) h = at_rank (nat_lt rank.0 (length old.state.inboxes)) result (λ is done. administered told_job (BeginsAt old.state new.state rank (dir, f)) result done.0) h
   grows_by_one result (CommitEnd encoded) h = administered told_nothing (EndsJobOf old.state.tree new.state.tree old.faults new.faults encoded.job) result h.0
   grows_by_one result (CommitDrop number) h = administered told_nothing (Drops old.state.tree new.state.tree number) result h.0
   grows_by_one result (CommitTree dir) h = administered told_nothing (SavesTree old.state.tree new.state.tree old.faults new.faults dir) result h.0
   grows_by_one result Purge h = administered told_nothing (Purges old.state.tree new.state.tree old.faults new.faults) result h.0
-  grows_by_one result (Evict rank) h = at_rank (nat_lt rank.0 (length old.state.inboxes)) result (λ done. administered told_nothing (EvictsOne old new rank) result done.0) h
+  grows_by_one result (Evict rank) h = at_rank (nat_lt rank.0 (length old.state.inboxes)) result (λ is done. administered told_nothing (EvictsOne old new rank) result done.0) h
   grows_by_one result (Start from dir f to) h =
-      at_rank (nat_lt from.0 (length old.state.inboxes)) result (λ w. at_rank (nat_lt to.0 (length old.state.inboxes)) result (λ done. exported (StartsIn old.state new.state from (dir, f) to) result done) w) h
+      at_rank (nat_lt from.0 (length old.state.inboxes)) result (λ is w. at_rank (nat_lt to.0 (length old.state.inboxes)) result (λ _ done. exported (StartsIn old.state new.state from (dir, f) to) result done) w) h
   grows_by_one result (Freeze dir f) h = exported (FreezesIn old.state new.state (dir, f)) result h
   grows_by_one result (Prep dir f) h = exported (PrepsIn old.state new.state (dir, f)) result h
   grows_by_one result (Send dir f) h = sent (dir, f) result h
@@ -121,7 +138,7 @@ pub aside_step : (gone past now : List Entry) (old new : Core) (result : Result 
     → AreSetAside gone past old.state.sessions → AreSetAside gone now new.state.sessions
 aside_step gone past now old new result event does tabled aside = go (grows_by_one (gone ++ past) (gone ++ now) old new result event does)
   where
-    go : GrowsByOne (gone ++ past) (gone ++ now) old.state.sessions new.state.sessions → AreSetAside gone now new.state.sessions
+    go : GrowsByOne (gone ++ past) (gone ++ now) old.state new.state.sessions → AreSetAside gone now new.state.sessions
     go (inl (same, known)) =
         subst (λ (t : Table). AreSetAside gone now t) (sym known) (subst (λ (h : List Entry). AreSetAside gone h old.state.sessions) (sym (behind_one gone now past same)) aside)
     go (inr h) =
@@ -152,7 +169,7 @@ keeps_whole before after may gone now count (inr (same, not, entry)) = inr (
 -- ---- a beginning is forgotten
 
 -- other sessions, that are those of the history
-sound_with : (opening : Opening) (history : List Entry) (core : Core) (sessions : Table) → IsTableOf history sessions → IsSound opening history core → IsSound opening history (with_sessions core sessions)
+pub sound_with : (opening : Opening) (history : List Entry) (core : Core) (sessions : Table) → IsTableOf history sessions → IsSound opening history core → IsSound opening history (with_sessions core sessions)
 sound_with opening history core sessions kept sound = record {
   legal = sound.legal;
   replayed = sound.replayed;

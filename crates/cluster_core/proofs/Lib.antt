@@ -50,8 +50,11 @@ pub mod Served
 pub mod SettledLaws
 pub mod SettledRegroups
 pub mod SettledStays
+pub mod StayLaws
 pub mod Stays
 pub mod Stepped
+pub mod StoredLaws
+pub mod StoringLaws
 pub mod Supplies
 pub mod TeethLaws
 pub mod ToldBytes

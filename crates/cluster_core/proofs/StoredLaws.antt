@@ -1,8 +1,7 @@
 -- The stand-ins of what rows store continue the history of which the rows tell all.
 use Rattle.cluster_core.proofs.Common.{Entry, IsGiven, IsLegalFrom, IsUsedFrom, List, None, Opening, Option, Some, [], after_from, ap, arith, drop, false, inl, inr, length, list_any, refl, since, subst, sym, ℕ, ⊎_elim, ◌++◌, ◌<◌, ◌∙◌, ◌∷◌, ◌≡◌, ◌≤◌, ◌⊎◌}
-use Rattle.std.proofs.Math.Seq.{drop-append_seam}
 use Rattle.mds_types.specs.Tree.{Tree}
-use Rattle.mds_types.specs.History.{IsNew, IsUsed, is_pair, mark}
+use Rattle.mds_types.specs.History.{IsNew, is_pair, mark}
 use Rattle.keeping.specs.Rows.{SessionRows}
 use Rattle.sessions.specs.Replies.{AnswerAlike}
 use Rattle.sessions.specs.Restored.{IsRestored, IsStoredOf}
@@ -16,7 +15,7 @@ use Rattle.cluster_core.specs.Resumed.{resumes, supplies_from}
 use Rattle.cluster_core.proofs.RestartHistory.{one_history}
 
 module _ (limit : ℕ) (opening : Opening) (history : List Entry) (rows : SessionRows) (stored : List Stored) (nexts : List ℕ) (table : Table)
-    (legal : IsLegalFrom limit opening history) (told : Tells rows opening history (after_from limit opening history))
+    (legal : IsLegalFrom limit opening history) (told : Tells rows opening history)
     (spelled : SpellsSessions rows stored nexts) (restored : IsRestored stored table) where
   abbrev tree : Tree
   tree = after_from limit opening history
@@ -47,15 +46,12 @@ module _ (limit : ℕ) (opening : Opening) (history : List Entry) (rows : Sessio
   pairs : (client tid : ℕ) → mark (stand_ins stored) client ≤ tid → list_any (is_pair client tid) (stand_ins stored) ≡ false → list_any (is_pair client tid) history ≡ false
   pairs client tid marked absent = ((alike.is_new client tid 0).1 (record { marked = marked; own = omega arith; absent = absent })).absent
 
-  none_since : since next (stand_ins stored) ≡ []
-  none_since = ap (since next) (sym (append-nil (stand_ins stored))) ∙ drop-append_seam (stand_ins stored) []
-
   numbers : (n : ℕ) → IsUsedFrom opening history n → IsUsedFrom next (stand_ins stored) n
   numbers n used = its (told.numbers n used)
     where
-      its : IsSpent tree told.nexts n → IsUsedFrom next (stand_ins stored) n
-      its (inl given) = inl (subst (λ (ns : List ℕ). IsGiven (supplies_from 0 ns) n) same_nexts given)
-      its (inr there) = inr (subst (λ (es : List Entry). IsUsed tree es n) (sym none_since) there)
+      its : IsSpent told.nexts n → IsUsedFrom next (stand_ins stored) n
+      its (inl root) = inr (inl root)
+      its (inr given) = inl (subst (λ (ns : List ℕ). IsGiven (supplies_from 0 ns) n) same_nexts given)
 
   pub stands_in : StandIn opening history next (stand_ins stored)
   stands_in = record { marks = marks; pairs = pairs; numbers = numbers }

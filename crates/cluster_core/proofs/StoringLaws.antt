@@ -1,17 +1,15 @@
 -- What edits make of the rows that a store keeps.
 use Rattle.cluster_core.proofs.Common.{AreSupplied, Entry, IsGiven, IsUsedFrom, List, Opening, StandsBehind, Supply, [], ap, arith, drop, get_or, get_or_append_left, inl, inr, length, length-append, no_supply, refl, subst, suc, sym, zero, cases_lt, ℕ, ⊎_elim, ◌+◌, ◌++◌, ◌-◌, ◌<◌, ◌∙◌, ◌∷◌, ◌≡◌, ◌≤◌, ◌⊎◌}
 use Rattle.std.specs.Prelude.{Contains}
-use Rattle.std.proofs.lemmas.List.{get_or-append-add, get_or-drop, get_or_past}
-use Rattle.mds_types.specs.Tree.{Tree}
+use Rattle.std.proofs.lemmas.List.{get_or-append-add, get_or-drop, get_or_past, get_or_push}
 use Rattle.inode_table.specs.Numbers.{IsSupply, end_number, first_number}
 use Rattle.keeping.specs.declared.rows.RowEdit.{RowEdit}
 use Rattle.keeping.specs.Rows.{SessionRows, edited}
-use Rattle.sessions.specs.Restored.{IsStoredAnew, IsStoredBut, IsStoredOf}
-use Rattle.sessions.specs.Stored.{Stored}
-use Rattle.session_rows.specs.Sessions.{SpellsSessions, WritesClients, WritesSessions, with_nexts}
+use Rattle.sessions.proofs.WrittenLaws.{written}
+use Rattle.session_rows.specs.Sessions.{WritesSessions, with_nexts}
 use Rattle.cluster_core.specs.KeptSessions.{AreNextOf, IsOfRanks, IsSpent, Tells, TellsBut, Updates}
 use Rattle.cluster_core.specs.Resumed.{supplies_from}
-use Rattle.cluster_core.specs.State.{Core, KeptState, shown}
+use Rattle.cluster_core.specs.State.{KeptState}
 use Rattle.cluster_core.proofs.ResumedLaws.{given_below}
 
 -- ---- numbers
@@ -63,24 +61,39 @@ module _ (opening : Opening) (history : List Entry) (numbers : List Supply) (nex
       inside : (xs : List ℕ) (k : ℕ) → 0 < get_or xs k 0 → k < length xs
       inside xs k some = ⊎_elim (λ (below : k < length xs). below) (λ (past : length xs ≤ k). absurd (omega (arith, some, get_or_past xs k 0 past))) (cases_lt k (length xs))
 
-  pub spent : (tree : Tree) (n : ℕ) → IsUsedFrom opening history n → IsOfRanks (length numbers) n ⊎ IsSpent tree before n → IsSpent tree (with_nexts nexts before) n
-  spent tree n used (inl here) = inl (of_ranks n used here)
-  spent tree n used (inr (inl given)) = inl (given_still n used given)
-  spent tree n used (inr (inr there)) = inr there
+  pub spent : (n : ℕ) → IsUsedFrom opening history n → IsOfRanks (length numbers) n ⊎ IsSpent before n → IsSpent (with_nexts nexts before) n
+  spent n used (inl here) = inr (of_ranks n used here)
+  spent n used (inr (inl root)) = inl root
+  spent n used (inr (inr given)) = inr (given_still n used given)
+
+-- ---- the next numbers, rank by rank
+
+pub none_next : (numbers : List Supply) → AreNextOf 0 numbers []
+none_next numbers = record { as_many = refl; each = λ rank below. absurd (omega (arith, below)) }
+
+pub one_next : (count : ℕ) (numbers : List Supply) (nexts : List ℕ) (next : ℕ) → AreNextOf count numbers nexts → next ≡ (get_or numbers count no_supply).next → AreNextOf (count + 1) numbers (nexts ++ next ∷ [])
+one_next count numbers nexts next are is = record {
+  as_many = length-append nexts (next ∷ []) ∙ omega (arith, are.as_many);
+  each = λ rank below. ⊎_elim
+      (λ (low : rank < count). get_or_append_left nexts (next ∷ []) rank 0 (omega (arith, low, are.as_many)) ∙ are.each rank low)
+      (λ (high : count ≤ rank).
+      let last : rank ≡ count = omega (arith, below, high) in
+      rw last (get_or_push nexts next 0 count are.as_many ∙ is))
+      (cases_lt rank count);
+}
 
 -- ---- the rows
 
 -- a law of sessions: once what is kept of the changed clients is written, what is stored is what the history keeps
-pub told_all : (rows : SessionRows) (opening : Opening) (past : List Entry) (book : KeptState) (changed nexts : List ℕ) (edits : List RowEdit) → StandsBehind opening past book
-    → WritesSessions book.history book.core.state.sessions changed nexts edits → AreNextOf (length book.core.state.numbers) book.core.state.numbers nexts
-    → TellsBut rows opening (past ++ book.history) book.core changed → Tells (edited edits rows) opening (past ++ book.history) (shown book.core.state)
-told_all rows opening past book changed nexts edits behind writes are told =
+pub told_all : (book : KeptState) (nexts : List ℕ) (edits : List RowEdit) → WritesSessions book.history book.core.state.sessions book.core.state.sessions.changed nexts edits
+    → AreNextOf (length book.core.state.numbers) book.core.state.numbers nexts → Updates book edits
+told_all book nexts edits writes are = λ opening past behind rows told.
     let its = writes rows told.stored told.nexts told.spelled in
     record {
       stored = its.new;
       nexts = with_nexts nexts told.nexts;
       spelled = its.spelled;
       once = told.once;
-      clients = written past book.history book.core.state.sessions changed told.stored its.new behind.behind.sound.kept behind.behind.aside told.once told.clients its.anew;
-      numbers = λ n used. spent opening (past ++ book.history) book.core.state.numbers nexts behind.behind.sound.supplied are told.nexts (shown book.core.state) n used (told.numbers n used);
+      clients = written past book.history book.core.state.sessions book.core.state.sessions.changed told.stored its.new behind.behind.sound.kept behind.behind.aside told.once told.clients its.anew;
+      numbers = λ n used. spent opening (past ++ book.history) book.core.state.numbers nexts behind.behind.sound.supplied are told.nexts n used (told.numbers n used);
     }

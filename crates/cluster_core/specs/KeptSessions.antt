@@ -1,64 +1,65 @@
 -- What the rows that a store keeps tell of a book, so that another book can go on from it after a restart.
-use Rattle.std.specs.Prelude.{◌≡◌, ◌⊎◌, ℕ, ◌<◌, ◌≤◌, ◌++◌, List, [], get_or, length}
+use Rattle.std.specs.Prelude.{◌≡◌, ◌⊎◌, ℕ, ◌<◌, ◌≤◌, ◌++◌, List, [], get_or, length, Result}
+use Rattle.std.specs.FinMap as map
 use Rattle.mds_types.specs.declared.entries.Entry.{Entry}
-use Rattle.mds_types.specs.Tree.{Tree}
-use Rattle.mds_types.specs.History.{IsUsed}
+use Rattle.mds_types.specs.declared.refusals.Refusal.{Refusal}
 use Rattle.inode_table.specs.Numbers.{Supply, end_number, first_number}
 use Rattle.keeping.specs.declared.rows.RowEdit.{RowEdit}
 use Rattle.keeping.specs.Rows.{SessionRows, edited}
 use Rattle.sessions.specs.Replies.{AnswerAlike, ArePairsOnce}
 use Rattle.sessions.specs.Restored.{IsRestored, IsStoredBut, IsStoredOf}
-use Rattle.sessions.specs.Rooms.{Held, table}
 use Rattle.sessions.specs.Stored.{Stored, stand_ins}
-use Rattle.sessions.specs.Table.{Table}
+use Rattle.sessions.specs.Table.{Table, all_stored, no_table}
 use Rattle.session_rows.specs.Sessions.{SpellsSessions}
-use Rattle.cluster_core.specs.Opening.{IsGiven, IsLegalFrom, IsUsedFrom, Opening, after_from}
+use Rattle.cluster_core.specs.Opening.{IsGiven, IsLegalFrom, IsUsedFrom, Opening, after_from, fresh}
 use Rattle.cluster_core.specs.Resumed.{resumes, supplies_from}
 use Rattle.cluster_core.specs.Sound.{StandsBehind}
-use Rattle.cluster_core.specs.State.{Core, KeptState, no_supply, shown}
+use Rattle.cluster_core.specs.State.{Core, KeptState, no_supply, shown, with_sessions}
+use Rattle.cluster_core.specs.Steps.{Steps}
+use Rattle.cluster_core.specs.declared.events.Answer.{Answer}
+use Rattle.cluster_core.specs.declared.events.Event.{Event}
 
 -- a number is of the range of one of so many ranks
 abbrev pub IsOfRanks : ℕ → ℕ → Type 0
 IsOfRanks ranks n = (rank : ℕ) × (rank < ranks) × (first_number rank ≤ n) × (n < end_number rank)
 
--- a book that resumes with this tree and these next numbers never gives the number: it is below its rank's next number,
--- or the tree has it
-abbrev pub IsSpent : Tree → (nexts : List ℕ) → ℕ → Type 0
-IsSpent tree nexts n = IsGiven (supplies_from 0 nexts) n ⊎ IsUsed tree [] n
+-- no book that resumes with these next numbers gives the number: it is the root's, or below its rank's next number
+abbrev pub IsSpent : (nexts : List ℕ) → ℕ → Type 0
+IsSpent nexts n = (n ≡ 1) ⊎ IsGiven (supplies_from 0 nexts) n
 
--- rows tell what a history keeps of each client, and which numbers it used; the tree is the one after it
-pub record Tells (rows : SessionRows) (opening : Opening) (history : List Entry) (tree : Tree) : Type 0 where
+-- rows tell what a history keeps of each client, and which numbers it used
+pub record Tells (rows : SessionRows) (opening : Opening) (history : List Entry) : Type 0 where
   pub stored : List Stored
   pub nexts : List ℕ
   pub spelled : SpellsSessions rows stored nexts
   pub once : ArePairsOnce history
   pub clients : IsStoredOf history stored
-  pub numbers : (n : ℕ) → IsUsedFrom opening history n → IsSpent tree nexts n
+  pub numbers : (n : ℕ) → IsUsedFrom opening history n → IsSpent nexts n
 
--- rows tell this but for the clients that changed since they were written, and for the numbers of the ranks of a cluster
-pub record TellsBut (rows : SessionRows) (opening : Opening) (history : List Entry) (core : Core) (changed : List ℕ)
-    : Type 0 where
+-- rows tell this but for the clients that changed since they were written, and for the numbers of the ranks that a
+-- cluster has
+pub record TellsBut (rows : SessionRows) (opening : Opening) (history : List Entry) (core : Core) : Type 0 where
   pub stored : List Stored
   pub nexts : List ℕ
   pub spelled : SpellsSessions rows stored nexts
   pub once : ArePairsOnce history
-  pub clients : IsStoredBut history changed stored
-  pub numbers : (n : ℕ) → IsUsedFrom opening history n
-      → IsOfRanks (length core.state.numbers) n ⊎ IsSpent (shown core.state) nexts n
+  pub clients : IsStoredBut history core.state.sessions.changed stored
+  pub numbers : (n : ℕ) → IsUsedFrom opening history n → IsOfRanks (length core.state.numbers) n ⊎ IsSpent nexts n
 
--- from rows that tell all but for these clients, edits make rows that tell all
-abbrev pub Updates : KeptState → (changed : List ℕ) → List RowEdit → Type 0
-Updates book changed edits = (opening : Opening) (past : List Entry) → StandsBehind opening past book
-    → (rows : SessionRows) → TellsBut rows opening (past ++ book.history) book.core changed
-    → Tells (edited edits rows) opening (past ++ book.history) (shown book.core.state)
+-- from rows that tell all but what changed, edits make rows that tell all
+abbrev pub Updates : KeptState → List RowEdit → Type 0
+Updates book edits = (opening : Opening) (past : List Entry) → StandsBehind opening past book → (rows : SessionRows)
+    → TellsBut rows opening (past ++ book.history) book.core → Tells (edited edits rows) opening (past ++ book.history)
 
--- a book's sessions are kept by edits that a store takes: those of the clients that the sessions list as changed
+-- a book's sessions are kept by edits that a store takes
 pub record KeepsSessions (book : KeptState) (takes : List RowEdit → Type 0) : Type 0 where
-  pub held : Held
-  pub sessions : table held ≡ book.core.state.sessions
   pub edits : List RowEdit
   pub taken : takes edits
-  pub updates : Updates book held.changed edits
+  pub updates : Updates book edits
+
+-- a book whose sessions are kept: no client is changed any more
+abbrev pub with_stored : KeptState → KeptState
+with_stored book = record book { core = with_sessions book.core (all_stored book.core.state.sessions) }
 
 -- stand-ins continue a history: each request is to them what it is to the history, one that the history keeps has the
 -- same reply, and what is legal behind them is legal behind the history
@@ -67,7 +68,7 @@ pub record Continue (limit : ℕ) (opening : Opening) (history : List Entry) (ne
   pub legal : (more : List Entry) → IsLegalFrom limit next (told ++ more) → IsLegalFrom limit opening (history ++ more)
 
 -- a book goes on from rows: with the stand-ins of what they store, which continue each history of which the rows tell
--- all, if the book's tree is the one after it
+-- all, if the book's tree is the one after it. Then the rows tell all of the stand-ins too
 pub record GoesOnFrom (rows : SessionRows) (book : KeptState) : Type 0 where
   pub stored : List Stored
   pub nexts : List ℕ
@@ -76,17 +77,35 @@ pub record GoesOnFrom (rows : SessionRows) (book : KeptState) : Type 0 where
   pub continues : (opening : Opening) (history : List Entry)
       → IsLegalFrom book.core.state.tree.limit opening history
       → shown book.core.state ≡ after_from book.core.state.tree.limit opening history
-      → Tells rows opening history (shown book.core.state)
-      → Continue book.core.state.tree.limit opening history
+      → Tells rows opening history → Continue book.core.state.tree.limit opening history
       (resumes (shown book.core.state) (stand_ins stored) nexts) (stand_ins stored)
+  pub told : (opening : Opening) (history : List Entry)
+      → shown book.core.state ≡ after_from book.core.state.tree.limit opening history → Tells rows opening history
+      → TellsBut rows (resumes (shown book.core.state) (stand_ins stored) nexts) (stand_ins stored) book.core
 
 -- rows that tell all of a history, and stored sessions that they spell: the stand-ins of these continue the history
 abbrev pub StoredSessionsGoOn : Type 0
 StoredSessionsGoOn =
     (limit : ℕ) (opening : Opening) (history : List Entry) (rows : SessionRows) (stored : List Stored) (nexts : List ℕ)
-    (table : Table) → IsLegalFrom limit opening history → Tells rows opening history (after_from limit opening history)
-    → SpellsSessions rows stored nexts → IsRestored stored table → Continue limit opening history
+    (table : Table) → IsLegalFrom limit opening history → Tells rows opening history → SpellsSessions rows stored nexts → IsRestored stored table → Continue limit opening history
     (resumes (after_from limit opening history) (stand_ins stored) nexts) (stand_ins stored)
+
+-- a store that keeps no rows tells all of a new book
+abbrev pub NoRowsTellOfANewBook : Type 0
+NoRowsTellOfANewBook = (core : Core) → core.state.sessions ≡ no_table → TellsBut map.empty (fresh map.empty) [] core
+
+-- whatever a step does, rows that told all but what changed do so still
+abbrev pub StepsStayTold : Type 0
+StepsStayTold =
+    (rows : SessionRows) (opening : Opening) (past : List Entry) (old new : KeptState) (result : Result Answer Refusal)
+    (event : Event) → StandsBehind opening past old → StandsBehind opening past new
+    → Steps old.core new.core (past ++ old.history) (past ++ new.history) result event
+    → TellsBut rows opening (past ++ old.history) old.core → TellsBut rows opening (past ++ new.history) new.core
+
+-- and so once the sessions were kept by rows that tell all
+abbrev pub KeptStaysTold : Type 0
+KeptStaysTold = (rows : SessionRows) (opening : Opening) (past : List Entry) (book : KeptState)
+    → Tells rows opening (past ++ book.history) → TellsBut rows opening (past ++ book.history) (with_stored book).core
 
 -- the next numbers of the first of these ranks
 pub record AreNextOf (count : ℕ) (numbers : List Supply) (nexts : List ℕ) : Type 0 where

@@ -2,7 +2,7 @@
 ghost use Rattle.cluster_core.specs.Checks.{MergesByChecks, SplitsByChecks};
 ghost use Rattle.cluster_core.specs.Commits.{JobsKeepObjects, JobsTakeWhatIsShown};
 ghost use Rattle.cluster_core.specs.Forgetting.{ABeginningMayGo, AllIsOneHistory, NoneIsNewAgain};
-ghost use Rattle.cluster_core.specs.KeptSessions.{StoredSessionsGoOn};
+ghost use Rattle.cluster_core.specs.KeptSessions.{KeptStaysTold, NoRowsTellOfANewBook, StepsStayTold, StoredSessionsGoOn};
 ghost use Rattle.cluster_core.specs.Opening.{BeginsAfresh, RestartsAreOneHistory};
 ghost use Rattle.cluster_core.specs.Exporting.{ImportsWhatIsTold, TellsOneBytes, TellsWhatSendGave};
 ghost use Rattle.cluster_core.specs.Teeth.{OneThreadInventsNothing, OneThreadTellsAll};
@@ -72,4 +72,12 @@ pub fn restarts_are_one_history()
 /// legal behind the stand-ins is legal behind the history.
 pub fn stored_sessions_go_on()
     ensures { StoredSessionsGoOn }
+{}
+
+/// Rows that tell all of a book's sessions but those of the changed clients do so from its beginning on, whatever it
+/// does: a store without rows at a new book, any rows behind a step, and the rows that `Book::keep` made.
+pub fn rows_stay_told()
+    ensures start { NoRowsTellOfANewBook }
+    ensures stepped { StepsStayTold }
+    ensures kept { KeptStaysTold }
 {}

@@ -1,8 +1,10 @@
 //! What a store keeps of a book: its objects, and beside them its sessions and the next numbers of its ranks.
-ghost use Rattle.std.specs.Prelude.{◌≡◌, ◌<◌, ◌≤◌, true, ℕ, length, get_or, IfErr, IfOk};
+ghost use Rattle.std.specs.Prelude.{◌≡◌, ◌<◌, ◌≤◌, true, ℕ, List, length, get_or, IfErr, IfOk, OnErr, OnOk};
 ghost use Rattle.inode_table.specs.Numbers.{IsSupply};
-ghost use Rattle.sessions.specs.Rooms.{Held, table};
-ghost use Rattle.cluster_core.specs.KeptSessions.{AreNextOf, KeepsSessions, Updates};
+ghost use Rattle.mds_types.specs.declared.entries.Entry.{Entry as Applied};
+ghost use Rattle.cluster_core.specs.KeptSessions.{AreNextOf, KeepsSessions, Updates, with_stored};
+ghost use Rattle.cluster_core.specs.Opening.{Opening};
+ghost use Rattle.cluster_core.specs.Sound.{StandsBehind};
 ghost use Rattle.cluster_core.specs.State.{no_supply};
 
 use crate::books::Book;
@@ -18,22 +20,26 @@ use std::snapshot::Snapshot;
 impl<S: Keep + Drop> Book<S> {
     /// Keeps the content of the store so that it outlives the process. A store that keeps rows also gets what `resume`
     /// needs: what is kept of each client that changed since the last `keep` that returned Ok, and each rank's next
-    /// inode number. The results are the store before and after, for contracts alone. Whatever it returns, the book is
-    /// unchanged.
+    /// inode number. Then no client is changed any more; else the book stays as it is, and so it does on an error. The
+    /// results are the store before and after, for contracts alone.
     pub fn keep(&mut self) -> Result<(Snapshot<S>, Snapshot<S>), Unkept>
-        ensures same { self.new ≡ self.old }
+        ensures stored { OnOk result (self.new ≡ with_stored self.old) }
+        ensures same { OnErr result (self.new ≡ self.old) }
+        ensures goes_on { (opening : Opening) (past : List Applied) → StandsBehind opening past self.old
+            → StandsBehind opening past self.new }
         ensures objects { IfOk result (λ s. S.objects s.1.value ≡ self.old.core.state.tree.objects) }
         ensures sessions { S.has_rows ≡ true
             → IfOk result (λ s. KeepsSessions self.old (λ edits. S.Takes s.0.value edits s.1.value)) }
         ensures failed { IfErr result (λ _. S.may_fail) }
     {
-        if !self.cluster.store().keeps_rows() {
-            return self.cluster.keep(&[]);
-        }
-        let Ok(edits) = self.edits() else {
-            return Err(Unkept::NoMemory);
+        let kept = if self.cluster.store().keeps_rows() {
+            let Ok(edits) = self.edits() else {
+                return Err(Unkept::NoMemory);
+            };
+            self.cluster.keep(edits.as_slice())?
+        } else {
+            self.cluster.keep(&[])?
         };
-        let kept = self.cluster.keep(edits.as_slice())?;
         self.cluster.given.sessions.clear_changed();
         Ok(kept)
     }
@@ -50,8 +56,7 @@ impl<S: Keep + Drop> Book<S> {
 impl<S: Store + Drop> Book<S> {
     // The edits that store what is kept of the changed clients, and the next number of each rank.
     fn edits(&self) -> Result<Vec<RowEdit>, AllocError>
-        ensures { IfOk result (λ edits. (held : Held) × (table held ≡ self.now.core.state.sessions)
-            × Updates self.now held.changed edits.items) }
+        ensures { IfOk result (λ edits. Updates self.now edits.items) }
     {
         let alloc = *self.history.allocator();
         let nexts = self.cluster.given.next_numbers(alloc)?;

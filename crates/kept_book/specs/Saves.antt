@@ -2,6 +2,7 @@
 use Rattle.std.specs.Prelude.{Result, Ok, Err}
 use Rattle.cold_store.specs.ColdTree.{IsColdTree}
 use Rattle.cluster_core.specs.Flush.{Flushes}
+use Rattle.cluster_core.specs.KeptSessions.{with_stored}
 use Rattle.cluster_core.specs.State.{KeptState, shown}
 use Rattle.kept_book.specs.declared.saving.Unsaved.{Unsaved}
 use Rattle.kept_book.specs.declared.saving.Unsaved.TheVariants.{Refused, Unkept}
@@ -11,8 +12,9 @@ pub record HasFlushed (old new : KeptState) : Type 0 where
   pub flushed : Flushes old new (Ok tt)
   pub cold : IsColdTree new.core.state.tree.objects (shown old.core.state)
 
--- the book was flushed if it is saved, and also if the file didn't keep it; otherwise the flush was refused
+-- the book was flushed if it is saved, and its sessions are kept then; the book was also flushed if the file didn't keep
+-- it; otherwise the flush was refused
 abbrev pub Saves : {X : Type 0} → (old new : KeptState) → Result X Unsaved → Type 0
-Saves old new (Ok saved) = HasFlushed old new
+Saves old new (Ok saved) = (flushed : KeptState) × HasFlushed old flushed × (new ≡ with_stored flushed)
 Saves old new (Err (Refused refusal)) = Flushes old new (Err refusal)
 Saves old new (Err (Unkept why)) = HasFlushed old new

@@ -1,6 +1,13 @@
 pub mod Common
+pub mod KeptLaws
 pub mod KeyOrder
 pub mod RankLaws
+pub mod ReadLaws
+pub mod RestoreLaws
 pub mod RowLaws
+pub mod SessionSteps
+pub mod StoreLaws
+pub mod TakeLaws
 pub mod ToldLaws
 pub mod Walks
+pub mod WriteLaws

@@ -38,7 +38,7 @@ kept_stored stored table client tid h =
 -- with a row more, or another
 module _ (table : Table) (forgotten client : ℕ) (row : Row) where
   abbrev after : Table
-  after = record { forgotten = forgotten; rows = map.insert table.rows client row }
+  after = record table { forgotten = forgotten; rows = map.insert table.rows client row }
 
   get_after : (q : ℕ) → map.get after.rows q ≡ cond (q == client) (Some row) (map.get table.rows q)
   get_after q = get-insert nat_cmp_total table.rows client row q ∙ ap (λ b. cond b (Some row) (map.get table.rows q)) (unsigned_tied q client)

@@ -44,11 +44,14 @@ pub no_row_there : (m : map.FinMap nat_cmp ℕ) (ss : List Session) (client : �
 no_row_there m ss client none = get-rows m ss client ∙ ap (option_map (row_at ss)) none
 
 -- the table of these rows
-abbrev pub behind : ℕ → Rows → Table
-behind forgotten rows = record { forgotten = forgotten; rows = rows }
+abbrev pub behind : ℕ → Rows → List ℕ → Table
+behind forgotten rows changed = record { forgotten = forgotten; rows = rows; changed = changed }
 
-pub same_behind : (f : ℕ) (r s : Rows) → r ≡ s → behind f r ≡ behind f s
-same_behind f r s e = ap (behind f) e
+pub same_behind : (f : ℕ) (r s : Rows) {c : List ℕ} → r ≡ s → behind f r c ≡ behind f s c
+same_behind f r s {c} e = ap (λ (rs : Rows). behind f rs c) e
+
+pub both_behind : (f : ℕ) (r s : Rows) (c d : List ℕ) → r ≡ s → c ≡ d → behind f r c ≡ behind f s d
+both_behind f r s c d e g = ap₂ (behind f) e g
 
 -- the same rows, in sessions that differ in their rooms or marks of change
 pub rows_alike : (m : map.FinMap nat_cmp ℕ) (ss new : List Session) → ((i : ℕ) → row_at new i ≡ row_at ss i) → rows m new ≡ rows m ss
@@ -138,13 +141,13 @@ module _ (m : map.FinMap nat_cmp ℕ) (ss : List Session) (client : ℕ) where
 
     -- with one more reply as it was stored
     pub told_known : (f : ℕ) (s : Session) → s ≡ get_or ss i s → (tid : ℕ) (reply : Reply) → w.row ≡ row_with_told s.row tid f reply
-        → rows m (set ss i w) ≡ (with_told (behind f (rows m ss)) client tid reply).rows
+        → rows m (set ss i w) ≡ (with_told (behind f (rows m ss) []) client tid reply).rows
     told_known f s found tid reply is =
         written ∙ ap (map.insert (rows m ss) client) (is ∙ ap (λ row. row_with_told row tid f reply) (read s found ∙ sym (row_known i its)))
 
     -- with one more reply, and without the replies below its mark
     pub noted_known : (f : ℕ) (s : Session) → s ≡ get_or ss i s → (tid oldest place : ℕ) → w.row ≡ noted_row s.row tid oldest place
-        → rows m (set ss i w) ≡ (noted (behind f (rows m ss)) client tid oldest place).rows
+        → rows m (set ss i w) ≡ (noted (behind f (rows m ss) []) client tid oldest place).rows
     noted_known f s found tid oldest place is =
         written ∙ ap (map.insert (rows m ss) client) (is ∙ ap (λ row. noted_row row tid oldest place) (read s found ∙ sym (row_known i its)))
 
@@ -158,7 +161,7 @@ module _ (m : map.FinMap nat_cmp ℕ) (ss : List Session) (client : ℕ) where
     kept_known s found f tid = ap (λ (r : Row). is_kept_at f (map.get r.kept tid)) (read s found ∙ sym (row_known i its))
 
     pub forgot_known : (s : Session) → s ≡ get_or ss i s → (f : ℕ) (e : Entry) → e.client ≡ client → w.row ≡ cond (is_kept_at f (map.get s.row.kept e.tid)) (row_with_aside s.row e.tid e.reply) s.row
-        → rows m (set ss i w) ≡ (forget_first (behind f (rows m ss)) e).rows
+        → rows m (set ss i w) ≡ (forget_first (behind f (rows m ss) []) e).rows
     forgot_known s found f e mine is =
         rw mine (go (is_kept_at f (map.get s.row.kept e.tid)) refl is ∙ ap (λ b. cond b (map.insert (rows m ss) client (row_with_aside (row_or_none (map.get (rows m ss) client)) e.tid e.reply)) (rows m ss)) (kept_known s found f e.tid))
       where
@@ -171,7 +174,7 @@ module _ (m : map.FinMap nat_cmp ℕ) (ss : List Session) (client : ℕ) where
   pub kept_unknown : map.get m client ≡ None → (f tid : ℕ) → false ≡ is_kept_at f (map.get (row_or_none (map.get (rows m ss) client)).kept tid)
   kept_unknown is f tid = ap (is_kept_at f) (sym (get-empty nat_cmp tid)) ∙ ap (λ (r : Row). is_kept_at f (map.get r.kept tid)) (sym (row_unknown is))
 
-  pub forgot_unknown : map.get m client ≡ None → (f : ℕ) (e : Entry) → e.client ≡ client → rows m ss ≡ (forget_first (behind f (rows m ss)) e).rows
+  pub forgot_unknown : map.get m client ≡ None → (f : ℕ) (e : Entry) → e.client ≡ client → rows m ss ≡ (forget_first (behind f (rows m ss) []) e).rows
   forgot_unknown is f e mine = rw mine (ap (λ b. cond b (map.insert (rows m ss) client (row_with_aside (row_or_none (map.get (rows m ss) client)) e.tid e.reply)) (rows m ss)) (kept_unknown is f e.tid))
 
   -- no session
@@ -212,6 +215,6 @@ module _ (m : map.FinMap nat_cmp ℕ) (ss : List Session) (client : ℕ) where
         go q false (Some j) is = ap (λ (s : Session). Some s.row) (get_or_append_left ss (w ∷ []) no_session j (h.in_range q j is))
 
     pub noted_first : (f : ℕ) (fresh : Row) (tid oldest place : ℕ) → map.get m client ≡ None → fresh ≡ no_row → w.row ≡ noted_row fresh tid oldest place
-        → rows (map.insert m client (length ss)) (ss ++ w ∷ []) ≡ (noted (behind f (rows m ss)) client tid oldest place).rows
+        → rows (map.insert m client (length ss)) (ss ++ w ∷ []) ≡ (noted (behind f (rows m ss) []) client tid oldest place).rows
     noted_first f fresh tid oldest place is none more =
         rows_more ∙ ap (map.insert (rows m ss) client) (more ∙ ap (λ row. noted_row row tid oldest place) (none ∙ sym (row_unknown is)))

@@ -145,7 +145,7 @@ module _ (whole : List Entry) (table : Table) (h : IsTableOf whole table) (aside
   module _ (e : Entry) (row : Row) (marked : row.mark ≡ max (mark whole e.client) e.oldest)
       (kept : (t : ℕ) → IsKeptFor (whole ++ e ∷ []) e.client t (map.get row.kept t)) (set_aside : (t : ℕ) → IsAsideFor (whole ++ e ∷ []) (table.forgotten + 1) (map.get row.kept t) (map.get row.aside t)) where
     abbrev next : Table
-    next = record { forgotten = table.forgotten + 1; rows = map.insert table.rows e.client row }
+    next = record table { forgotten = table.forgotten + 1; rows = map.insert table.rows e.client row }
 
     row_next : (q : ℕ) → row_in next q ≡ cond (q == e.client) row (row_in table q)
     row_next q =

@@ -44,14 +44,11 @@ rows_with_aside rows e =
 
 -- the table with the reply of the first entry that isn't forgotten set aside, if it's kept
 abbrev pub released : Table → Entry → Table
-released table e = record {
-  forgotten = table.forgotten;
-  rows = cond (keeps_first table e) (rows_with_aside table.rows e) table.rows;
-}
+released table e = record table { rows = cond (keeps_first table e) (rows_with_aside table.rows e) table.rows }
 
 -- the table, once that entry is forgotten
 abbrev pub forget_first : Table → Entry → Table
-forget_first table e = record { forgotten = table.forgotten + 1; rows = (released table e).rows }
+forget_first table e = record (released table e) { forgotten = table.forgotten + 1 }
 
 -- and once these are
 abbrev pub forget_all : Table → List Entry → Table

@@ -18,7 +18,7 @@ marked_row mark = record { mark = mark; kept = map.empty; aside = map.empty }
 
 -- the table with one more client
 abbrev pub with_client : Table → (client mark : ℕ) → Table
-with_client table client mark = record {
+with_client table client mark = record table {
   forgotten = table.forgotten + length (mark_stand_in client mark);
   rows = map.insert table.rows client (marked_row mark);
 }
@@ -33,7 +33,7 @@ row_with_told row tid place reply = record {
 
 -- the table with one more reply to a client
 abbrev pub with_told : Table → (client tid : ℕ) → Reply → Table
-with_told table client tid reply = record {
+with_told table client tid reply = record table {
   forgotten = table.forgotten + 1;
   rows = map.insert table.rows client (row_with_told (row_in table client) tid table.forgotten reply);
 }

@@ -6,6 +6,7 @@ use Rattle.std.specs.FinMap as map
 use Rattle.sessions.specs.declared.found.SessionAt.{SessionAt}
 use Rattle.sessions.specs.declared.clients.Seen.{Seen}
 use Rattle.sessions.specs.declared.clients.Seen.TheVariants.{New, Kept, Trimmed}
+pub use Rattle.sessions.specs.Table.{is_among, with_changed}
 use Rattle.sessions.specs.Table.{Row, Rows, Table, no_row}
 
 -- a client's row, how many more replies fit with no growth, and whether the client is changed
@@ -43,20 +44,12 @@ rows indices sessions = map.from_sorted (map (λ e. (e.0, row_at sessions e.1)) 
 
 -- the table alone
 abbrev pub table : Held → Table
-table held = record { forgotten = held.forgotten; rows = rows held.indices held.sessions }
+table held = record { forgotten = held.forgotten; rows = rows held.indices held.sessions; changed = held.changed }
 
 -- each client has a session of its own
 pub record AreIndexed (indices : map.FinMap nat_cmp ℕ) (sessions : List Session) : Type 0 where
   pub in_range : (client i : ℕ) → map.get indices client ≡ Some i → i < length sessions
   pub apart : (one other i : ℕ) → map.get indices one ≡ Some i → map.get indices other ≡ Some i → one ≡ other
-
--- whether a client is one of these
-abbrev pub is_among : List ℕ → (client : ℕ) → Bool
-is_among clients client = list_any (λ c. c == client) clients
-
--- the clients, with one more if it isn't there
-abbrev pub with_changed : List ℕ → (client : ℕ) → List ℕ
-with_changed clients client = cond (is_among clients client) clients (clients ++ client ∷ [])
 
 -- whether the session that was found is that of a changed client
 abbrev pub changed_at : List Session → Option ℕ → Bool

@@ -1,5 +1,5 @@
 -- The session table, without a word of memory, and what it says of a history.
-use Rattle.std.specs.Prelude.{◌≡◌, ℕ, ◌≤◌, max, false, List, Option, Some, None}
+use Rattle.std.specs.Prelude.{◌≡◌, ℕ, ◌≤◌, ◌++◌, ◌==◌, Bool, cond, max, false, List, [], ◌∷◌, Option, Some, None}
 use Rattle.std.specs.List.{list_any}
 use Rattle.std.specs.Ordering.{nat_cmp}
 use Rattle.std.specs.FinMap as map
@@ -19,14 +19,28 @@ pub record Row : Type 0 where
 abbrev pub Rows : Type 0
 Rows = map.FinMap nat_cmp Row
 
--- how many entries are forgotten, the first of the history, and the rows by client
+-- how many entries are forgotten, the first of the history; the rows by client; and the clients that are changed, in the
+-- order in which they became so
 pub record Table : Type 0 where
   pub forgotten : ℕ
   pub rows : Rows
+  pub changed : List ℕ
 
 -- the table of no history
 abbrev pub no_table : Table
-no_table = record { forgotten = 0; rows = map.empty }
+no_table = record { forgotten = 0; rows = map.empty; changed = [] }
+
+-- whether a client is one of these
+abbrev pub is_among : List ℕ → (client : ℕ) → Bool
+is_among clients client = list_any (λ c. c == client) clients
+
+-- the clients, with one more if it isn't there
+abbrev pub with_changed : List ℕ → (client : ℕ) → List ℕ
+with_changed clients client = cond (is_among clients client) clients (clients ++ client ∷ [])
+
+-- the table once what is kept of the changed clients is stored: none is changed any more
+abbrev pub all_stored : Table → Table
+all_stored table = record table { changed = [] }
 
 -- the row of a client of which nothing is known
 abbrev pub no_row : Row
@@ -66,11 +80,12 @@ trimmed_row row = record {
   aside = map.retain_keys row.aside (is_from nat_cmp row.mark);
 }
 
--- the table with one more reply to a client
+-- the table with one more reply to a client, which is changed then
 abbrev pub noted : Table → ℕ → ℕ → ℕ → ℕ → Table
 noted table client tid oldest place = record {
   forgotten = table.forgotten;
   rows = map.insert table.rows client (noted_row (row_in table client) tid oldest place);
+  changed = with_changed table.changed client;
 }
 
 -- the rows with the row that was found trimmed
@@ -80,8 +95,7 @@ trimmed_found rows client (Some row) = map.insert rows client (trimmed_row row)
 
 -- the table without a client's replies below its mark
 abbrev pub trimmed : Table → ℕ → Table
-trimmed table client =
-    record { forgotten = table.forgotten; rows = trimmed_found table.rows client (map.get table.rows client) }
+trimmed table client = record table { rows = trimmed_found table.rows client (map.get table.rows client) }
 
 -- what is kept for a pair: the place of its entry if it stands in the history and isn't below the mark, and else
 -- nothing

@@ -6,7 +6,7 @@ ghost use Rattle.std.specs.FinMap as map;
 ghost use Rattle.sorted_map.specs.SortedMap.{contents};
 ghost use Rattle.mds_types.specs.declared.entries.Entry.{Entry as Applied};
 ghost use Rattle.sessions.specs.Aside.{AreSetAside, StopsForgetting, forget_all, forget_first, keeps_first, released};
-ghost use Rattle.sessions.specs.Table.{no_row, no_table, noted, trimmed, IsTableOf};
+ghost use Rattle.sessions.specs.Table.{all_stored, no_row, no_table, noted, trimmed, IsTableOf};
 ghost use Rattle.sessions.specs.Kept.{IsKept};
 ghost use Rattle.sessions.specs.Rooms.{AreIndexed, Held, IsReady, IsSessionAt, TellsSession, changed_at, is_among, row_at, table, with_changed};
 ghost use Rattle.sessions.specs.Seen.{IsSeen};
@@ -293,7 +293,7 @@ impl Sessions {
     /// Counts no client as changed any more. It is called once what is kept of the changed ones is stored.
     pub fn clear_changed(&mut self)
         ensures none { self.new.changed ≡ [] }
-        ensures same { table self.new ≡ table self.old }
+        ensures stored { table self.new ≡ all_stored (table self.old) }
     {
         clear(&self.indices, &mut self.sessions, &self.changed);
         self.changed.clear();

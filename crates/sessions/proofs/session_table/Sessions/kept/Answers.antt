@@ -15,7 +15,7 @@ kept-requires c =
     let tabled = subst (λ (h : Held). IsTableOf (past ++ history) (table h)) (sym c.self.view_is) c.requires.1 in
     let aside = subst (λ (h : Held). AreSetAside past history (table h)) (sym c.self.view_is) c.requires.2 in
     subst (λ (r : Row). AllByRecursion (IsInReach history c.self.inside.forgotten r.aside) (map.entries r.kept)) known
-    (in_reach past history (behind c.self.inside.forgotten (rows (contents nat_cmp c.self.inside.indices) c.self.inside.sessions.items)) c.args.client tabled aside)
+    (in_reach past history (behind c.self.inside.forgotten (rows (contents nat_cmp c.self.inside.indices) c.self.inside.sessions.items) c.self.inside.changed.items) c.args.client tabled aside)
 
 pub returns-in-Some : goal.returns-in-Some
 returns-in-Some c =

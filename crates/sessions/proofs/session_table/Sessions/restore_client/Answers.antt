@@ -1,4 +1,4 @@
-use Rattle.sessions.proofs.Common.{IfSome, None, Option, Session, Some, [], ap, ap₂, arith, contents, length, nat_cmp, no_row, rows, sym, mark_stand_in, ◌+◌, ◌++◌, ◌<◌, ◌∙◌, ◌∷◌, ◌≡◌}
+use Rattle.sessions.proofs.Common.{IfSome, None, Option, Session, Some, [], ap, ap₂, arith, contents, length, nat_cmp, no_row, rows, sym, mark_stand_in, ℕ, Rows, ◌+◌, ◌++◌, ◌<◌, ◌∙◌, ◌∷◌, ◌≡◌}
 use Rattle.std.specs.FinMap as map
 use Rattle.sessions.proofs.ChangedLaws.{listed_still}
 use Rattle.sessions.proofs.RestoredLaws.{tells_none, tells_one}
@@ -53,7 +53,7 @@ returns-then-mark-gt0-clause-taken c =
     let items : c.push_reserved.new.self.items ≡ ss ++ c.marked.result ∷ [] = c.push_reserved.ensures.items ∙ ap (λ l. l ++ c.marked.result ∷ []) c.reserve-2.ensures.items in
     rw (← c.self.view_is) (record {
       unknown = no_row_there m ss c.args.client none;
-      table = ap₂ behind (ap (λ n. c.self.inside.forgotten + n) (sym (tells_one c.args.client c.args.mark c.if-mark-gt0.true)))
+      table = ap₂ (λ (f : ℕ) (rs : Rows). behind f rs c.self.inside.changed.items) (ap (λ n. c.self.inside.forgotten + n) (sym (tells_one c.args.client c.args.mark c.if-mark-gt0.true)))
           (ap₂ rows indices items ∙ rows_more m ss c.args.client c.self.invariant.0 c.marked.result ∙ ap (map.insert (rows m ss) c.args.client) c.marked.ensures.row);
     })
 
@@ -68,6 +68,6 @@ returns-else-mark-gt0-clause-taken c =
     let still : c.self.inside.forgotten ≡ c.self.inside.forgotten + length (mark_stand_in c.args.client c.args.mark) = omega (arith, tells_none c.args.client c.args.mark c.if-mark-gt0.false) in
     rw (← c.self.view_is) (record {
       unknown = no_row_there m ss c.args.client none;
-      table = ap₂ behind still
+      table = ap₂ (λ (f : ℕ) (rs : Rows). behind f rs c.self.inside.changed.items) still
           (ap₂ rows indices items ∙ rows_more m ss c.args.client c.self.invariant.0 c.marked.result ∙ ap (map.insert (rows m ss) c.args.client) c.marked.ensures.row);
     })

@@ -37,7 +37,7 @@ returns-in_err-restore-clause-unfit c =
     let was = c.index_mut.result.now in
     let known = read m ss c.args.client c.self.invariant.0 c.in-Some.i its was was c.index_mut.ensures.value ∙ sym (row_known m ss c.args.client c.in-Some.i its) in
     for_one c.from_residual.result c.in_err-restore.field-0.0 _ c.from_residual.ensures.1
-    (rw (← c.self.view_is) (unfit_reply (behind c.self.inside.forgotten (rows m ss)) c.args.client c.args.tid was.row known c.in_err-restore.field-0.0 c.in_err-restore.ensures.unfit))
+    (rw (← c.self.view_is) (unfit_reply (behind c.self.inside.forgotten (rows m ss) c.self.inside.changed.items) c.args.client c.args.tid was.row known c.in_err-restore.field-0.0 c.in_err-restore.ensures.unfit))
 
 pub returns-clause-taken : goal.returns-clause-taken
 returns-clause-taken c =

@@ -13,7 +13,7 @@ seen-requires c =
     let past = c.requires.0 in
     let tabled = subst (λ (h : Held). IsTableOf (past ++ c.args.history.now) (table h)) (sym c.self.view_is) c.requires.1 in
     let aside = subst (λ (h : Held). AreSetAside past c.args.history.now (table h)) (sym c.self.view_is) c.requires.2 in
-    λ place is none. kept_within past c.args.history.now (behind c.self.inside.forgotten (rows (contents nat_cmp c.self.inside.indices) c.self.inside.sessions.items)) c.args.client c.args.tid place tabled aside (ap (λ (r : Row). map.get r.kept c.args.tid) known ∙ is) (ap (λ (r : Row). map.get r.aside c.args.tid) known ∙ none)
+    λ place is none. kept_within past c.args.history.now (behind c.self.inside.forgotten (rows (contents nat_cmp c.self.inside.indices) c.self.inside.sessions.items) c.self.inside.changed.items) c.args.client c.args.tid place tabled aside (ap (λ (r : Row). map.get r.kept c.args.tid) known ∙ is) (ap (λ (r : Row). map.get r.aside c.args.tid) known ∙ none)
 
 pub returns-in-Some-clause-seen : goal.returns-in-Some-clause-seen
 returns-in-Some-clause-seen c =
