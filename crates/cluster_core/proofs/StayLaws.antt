@@ -1,7 +1,6 @@
 -- Rows that tell all of a book but what changed do so behind each step.
-use Rattle.cluster_core.proofs.Common.{Answer, Core, Entry, Event, Ino, IsGiven, IsSupplied, IsUsedFrom, KeptState, List, None, Opening, Option, Refusal, Result, Some, StandsBehind, Steps, Supply, Table, [], ap, arith, cond, false, fresh, get_or, inl, inr, length, ltb-true, nat_lt, no_supply, offer, refl, replicate, subst, sym, with_entry, ℕ, ⊎_elim, ◌++◌, ◌<◌, ◌∙◌, ◌∷◌, ◌≡◌, ◌≤◌, ◌⊎◌}
+use Rattle.cluster_core.proofs.Common.{Answer, Core, Entry, Event, Ino, IsGiven, IsSupplied, IsUsedFrom, KeptState, List, None, Opening, Option, Refusal, Result, Some, StandsBehind, Steps, Supply, Table, [], ap, arith, cond, entries-empty, false, fresh, get_or, inl, inr, length, ltb-true, nat_lt, no_supply, offer, refl, replicate, subst, sym, with_entry, ℕ, ⊎_elim, ◌++◌, ◌<◌, ◌∙◌, ◌∷◌, ◌≡◌, ◌≤◌, ◌⊎◌}
 use Rattle.std.specs.FinMap as map
-use Rattle.std.specs.FinMap.{entries-empty}
 use Rattle.std.proofs.Common.{map as list_map}
 use Rattle.mds_types.specs.Tree.{numbers}
 use Rattle.inode_table.specs.Numbers.{end_number, first_number}

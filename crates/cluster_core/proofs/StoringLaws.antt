@@ -6,8 +6,8 @@ use Rattle.inode_table.specs.Numbers.{IsSupply, end_number, first_number}
 use Rattle.keeping.specs.declared.rows.RowEdit.{RowEdit}
 use Rattle.keeping.specs.Rows.{SessionRows, edited}
 use Rattle.sessions.proofs.WrittenLaws.{written}
-use Rattle.session_rows.specs.Sessions.{WritesSessions, with_nexts}
-use Rattle.cluster_core.specs.KeptSessions.{AreNextOf, IsOfRanks, IsSpent, Tells, TellsBut, Updates}
+use Rattle.session_rows.specs.Sessions.{AreNextInos, with_nexts}
+use Rattle.cluster_core.specs.KeptSessions.{AreNextOf, IsOfRanks, IsSpent, Tells, TellsBut, Updates, WritesAll}
 use Rattle.cluster_core.specs.Resumed.{supplies_from}
 use Rattle.cluster_core.specs.State.{KeptState}
 use Rattle.cluster_core.proofs.ResumedLaws.{given_below}
@@ -82,18 +82,32 @@ one_next count numbers nexts next are is = record {
       (cases_lt rank count);
 }
 
+-- they are numbers of the ranks' ranges, or the ends of these
+pub next_inos : (opening : Opening) (history : List Entry) (numbers : List Supply) (nexts : List ℕ) → AreSupplied opening history numbers → AreNextOf (length numbers) numbers nexts → AreNextInos nexts
+next_inos opening history numbers nexts supplied are = record {
+  few = ⊎_elim (λ (few : length numbers < 17). omega (arith, few, are.as_many))
+      (λ (many : 17 ≤ length numbers).
+      let last = supplied 16 (omega (arith, many)) in
+      absurd (omega (arith, last.supply.ranked, last.own)))
+      (cases_lt (length numbers) 17);
+  ranged = λ rank below.
+      let among : rank.0 < length numbers = omega (arith, below, are.as_many) in
+      let its = supplied rank.0 among in
+      let next = are.each rank.0 among in
+      record { least = omega (arith, its.supply.started, its.own, next); most = omega (arith, its.supply.ended, its.own, next) };
+}
+
 -- ---- the rows
 
 -- a law of sessions: once what is kept of the changed clients is written, what is stored is what the history keeps
-pub told_all : (book : KeptState) (nexts : List ℕ) (edits : List RowEdit) → WritesSessions book.history book.core.state.sessions book.core.state.sessions.changed nexts edits
-    → AreNextOf (length book.core.state.numbers) book.core.state.numbers nexts → Updates book edits
-told_all book nexts edits writes are = λ opening past behind rows told.
-    let its = writes rows told.stored told.nexts told.spelled in
+pub told_all : (book : KeptState) (edits : List RowEdit) → WritesAll book.history book.core edits → Updates book edits
+told_all book edits all = λ opening past behind rows told.
+    let its = all.writes rows told.stored told.nexts told.spelled in
     record {
       stored = its.new;
-      nexts = with_nexts nexts told.nexts;
+      nexts = with_nexts all.nexts told.nexts;
       spelled = its.spelled;
       once = told.once;
       clients = written past book.history book.core.state.sessions book.core.state.sessions.changed told.stored its.new behind.behind.sound.kept behind.behind.aside told.once told.clients its.anew;
-      numbers = λ n used. spent opening (past ++ book.history) book.core.state.numbers nexts behind.behind.sound.supplied are told.nexts n used (told.numbers n used);
+      numbers = λ n used. spent opening (past ++ book.history) book.core.state.numbers all.nexts behind.behind.sound.supplied all.are told.nexts n used (told.numbers n used);
     }

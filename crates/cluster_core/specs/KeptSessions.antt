@@ -10,7 +10,7 @@ use Rattle.sessions.specs.Replies.{AnswerAlike, ArePairsOnce}
 use Rattle.sessions.specs.Restored.{IsRestored, IsStoredBut, IsStoredOf}
 use Rattle.sessions.specs.Stored.{Stored, stand_ins}
 use Rattle.sessions.specs.Table.{Table, all_stored, no_table}
-use Rattle.session_rows.specs.Sessions.{SpellsSessions}
+use Rattle.session_rows.specs.Sessions.{SpellsSessions, WritesSessions}
 use Rattle.cluster_core.specs.Opening.{IsGiven, IsLegalFrom, IsUsedFrom, Opening, after_from, fresh}
 use Rattle.cluster_core.specs.Resumed.{resumes, supplies_from}
 use Rattle.cluster_core.specs.Sound.{StandsBehind}
@@ -111,3 +111,9 @@ KeptStaysTold = (rows : SessionRows) (opening : Opening) (past : List Entry) (bo
 pub record AreNextOf (count : ℕ) (numbers : List Supply) (nexts : List ℕ) : Type 0 where
   pub as_many : length nexts ≡ count
   pub each : (rank : ℕ) → rank < count → get_or nexts rank 0 ≡ (get_or numbers rank no_supply).next
+
+-- edits make the rows of all that a cluster keeps of sessions and next numbers
+pub record WritesAll (history : List Entry) (core : Core) (edits : List RowEdit) : Type 0 where
+  pub nexts : List ℕ
+  pub are : AreNextOf (length core.state.numbers) core.state.numbers nexts
+  pub writes : WritesSessions history core.state.sessions core.state.sessions.changed nexts edits

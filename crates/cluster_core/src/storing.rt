@@ -2,16 +2,18 @@
 ghost use Rattle.std.specs.Prelude.{◌≡◌, ◌<◌, ◌≤◌, true, ℕ, List, length, get_or, IfErr, IfOk, OnErr, OnOk};
 ghost use Rattle.inode_table.specs.Numbers.{IsSupply};
 ghost use Rattle.mds_types.specs.declared.entries.Entry.{Entry as Applied};
-ghost use Rattle.cluster_core.specs.KeptSessions.{AreNextOf, KeepsSessions, Updates, with_stored};
+ghost use Rattle.sessions.specs.Table.{all_stored};
+ghost use Rattle.cluster_core.specs.KeptSessions.{AreNextOf, KeepsSessions, WritesAll, with_stored};
 ghost use Rattle.cluster_core.specs.Opening.{Opening};
-ghost use Rattle.cluster_core.specs.Sound.{StandsBehind};
-ghost use Rattle.cluster_core.specs.State.{no_supply};
+ghost use Rattle.cluster_core.specs.Sound.{IsSoundBehind, StandsBehind};
+ghost use Rattle.cluster_core.specs.State.{no_supply, with_sessions};
 
 use crate::books::Book;
+use crate::clusters::Cluster;
 use crate::parts::Given;
 use crate::resuming::next_of;
 use keeping::{Keep, RowEdit, Unkept};
-use mds_types::Rank;
+use mds_types::{Entry, Rank};
 use objstore::Store;
 use session_rows::edits_of;
 use std::alloc::{AllocError, Global};
@@ -32,16 +34,26 @@ impl<S: Keep + Drop> Book<S> {
             → IfOk result (λ s. KeepsSessions self.old (λ edits. S.Takes s.0.value edits s.1.value)) }
         ensures failed { IfErr result (λ _. S.may_fail) }
     {
-        let kept = if self.cluster.store().keeps_rows() {
-            let Ok(edits) = self.edits() else {
-                return Err(Unkept::NoMemory);
-            };
-            self.cluster.keep(edits.as_slice())?
-        } else {
-            self.cluster.keep(&[])?
-        };
-        self.cluster.given.sessions.clear_changed();
+        let kept = self.keep_all()?;
+        self.cluster.count_stored();
         Ok(kept)
+    }
+
+    // Keeps the content of the store, and beside it what changed of the sessions, if the store keeps rows.
+    fn keep_all(&mut self) -> Result<(Snapshot<S>, Snapshot<S>), Unkept>
+        ensures same { self.new ≡ self.old }
+        ensures objects { IfOk result (λ s. S.objects s.1.value ≡ self.old.core.state.tree.objects) }
+        ensures sessions { S.has_rows ≡ true
+            → IfOk result (λ s. KeepsSessions self.old (λ edits. S.Takes s.0.value edits s.1.value)) }
+        ensures failed { IfErr result (λ _. S.may_fail) }
+    {
+        if !self.cluster.store().keeps_rows() {
+            return self.cluster.keep(&[]);
+        }
+        match self.cluster.edits(self.history.as_slice()) {
+            Ok(edits) => self.cluster.keep(edits.as_slice()),
+            Err(AllocError) => Err(Unkept::NoMemory),
+        }
     }
 
     /// Gathers all that was kept in one place, at the end of a run. Whatever it returns, the book is unchanged.
@@ -53,19 +65,22 @@ impl<S: Keep + Drop> Book<S> {
     }
 }
 
-impl<S: Store + Drop> Book<S> {
+impl<S: Store + Drop> Cluster<S> {
     // The edits that store what is kept of the changed clients, and the next number of each rank.
-    fn edits(&self) -> Result<Vec<RowEdit>, AllocError>
-        ensures { IfOk result (λ edits. Updates self.now edits.items) }
+    fn edits(&self, history: &[Entry]) -> Result<Vec<RowEdit>, AllocError>
+        requires { (opening : Opening) × (past : List Applied) × IsSoundBehind opening past history.now self.now }
+        ensures { IfOk result (λ edits. WritesAll history.now self.now edits.items) }
     {
-        let alloc = *self.history.allocator();
-        let nexts = self.cluster.given.next_numbers(alloc)?;
-        edits_of(
-            alloc,
-            &self.cluster.given.sessions,
-            self.history.as_slice(),
-            nexts.as_slice(),
-        )
+        let alloc = *self.given.numbers.allocator();
+        let nexts = self.given.next_numbers(alloc)?;
+        edits_of(alloc, &self.given.sessions, history, nexts.as_slice())
+    }
+
+    // No client counts as changed any more.
+    fn count_stored(&mut self)
+        ensures { self.new ≡ with_sessions self.old (all_stored self.old.state.sessions) }
+    {
+        self.given.sessions.clear_changed();
     }
 }
 
