@@ -11,6 +11,7 @@ use Rattle.mds_types.specs.declared.operations.Op.{Op}
 use Rattle.mds_types.specs.declared.requests.Request.{Request}
 use Rattle.std.specs.Prelude.{Contains}
 use Rattle.cluster_core.specs.Flush.{Flushes, KeepsBook}
+use Rattle.cluster_core.specs.KeptSessions.{with_stored}
 use Rattle.cluster_core.specs.OneThread.{IsAskedFor, IsSent, arrival, receipt_of, waiting_in}
 use Rattle.cluster_core.specs.Sound.{IsSoundKept, StandsBehind}
 use Rattle.cluster_core.specs.State.{KeptState, State, whole_of}
@@ -20,6 +21,7 @@ use Rattle.cluster_core.specs.declared.receipts.Receipt.{Receipt}
 use Rattle.cluster_core.proofs.ListLaws.{all_append, all_back, all_front, all_weaker, each_left, each_right}
 use Rattle.cluster_core.proofs.NoReplyLaws.{TellsNone}
 use Rattle.cluster_core.proofs.OneThreadLaws.{as_one}
+use Rattle.cluster_core.proofs.StayLaws.{stored_behind}
 use Rattle.admin_cli.proofs.ServedKept.{Served, in_places, in_whole, served_forgot, served_none, served_on, served_one, served_same, step_tells_none}
 use Rattle.cluster_core.proofs.SentLaws.{AreAmong, nested}
 use Rattle.sessions.specs.Table.{mark_in}
@@ -455,6 +457,25 @@ saved_book : (book new : KeptState) (result : Result (Unit {0}) Refusal) (printe
 saved_book book new (Ok done) printed (inl (_, is)) = inl is
 saved_book book new (Ok done) printed (inr (_, _, is)) = inr is
 saved_book book new (Err refusal) printed (_, is) = inr is
+
+saves : (sent : List Request) (old new : Admin) (printed : OutputLine) → IsReady sent old → SavesLine old new printed → DidLine sent old new printed
+saves sent old new printed ready h = go (saved_book h.book new.book h.result printed h.shown)
+  where
+    none : receipt_in printed ≡ []
+    none = saved_silent h.book new.book h.result printed h.shown
+
+    first : Served old.book h.book sent []
+    first = flushed sent old.book h.book h.result ready.1 h.flushed
+
+    stored : Served h.book (with_stored h.book) sent []
+    stored = served_none sent h.book (with_stored h.book) (λ opening past given. stored_behind opening past h.book given) refl refl refl first.waits
+
+    sound : IsSoundKept (with_stored h.book)
+    sound = let known = h.flushed.sound in (known.0, known.1, stored_behind known.0 known.1 h.book known.2)
+
+    go : (new.book ≡ with_stored h.book) ⊎ (new.book ≡ h.book) → DidLine sent old new printed
+    go (inl is) = as_told sent old new printed [] none (subst IsSoundKept (sym is) sound) (subst (λ (b : KeptState). Served old.book b sent []) (sym is) (served_on sent old.book h.book (with_stored h.book) [] [] first stored))
+    go (inr is) = as_told sent old new printed [] none (subst IsSoundKept (sym is) h.flushed.sound) (subst (λ (b : KeptState). Served old.book b sent []) (sym is) first)
 
 either_way : {P : Type 0} (b : Bool) (A B : Type 0) → (A → P) → (B → P) → MatchBool b A B → P
 either_way true A B f g h = f h
