@@ -1,9 +1,10 @@
 //! A service: a book that is only asked, and in which no request is left waiting.
-ghost use Rattle.std.specs.Prelude.{◌≡◌, ◌≢◌, ◌++◌, ◌∷◌, [], List, None, Err, IfErr, IfOk, MatchResult, OnOk};
+ghost use Rattle.std.specs.Prelude.{◌≡◌, ◌≢◌, ◌++◌, ◌∷◌, [], true, List, None, Err, IfErr, IfOk, MatchResult, OnErr, OnOk};
 ghost use Rattle.std.specs.FinMap as map;
 ghost use Rattle.cluster_core.specs.Opening.{Opening};
 ghost use Rattle.mds_types.specs.declared.entries.Entry.{Entry as Applied};
 ghost use Rattle.cluster_core.specs.Flush.{Flushes, IsColdTree};
+ghost use Rattle.cluster_core.specs.KeptSessions.{KeepsSessions, with_stored};
 ghost use Rattle.cluster_core.specs.OneThread.{InOrder, IsOneThread, StandsInHistory, arrival};
 ghost use Rattle.cluster_core.specs.Sound.{StandsBehind, IsSoundKept};
 ghost use Rattle.cluster_core.specs.State.{places_of, shown};

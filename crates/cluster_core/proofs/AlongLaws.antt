@@ -1,5 +1,5 @@
 -- A directory that goes has no leaf but those that a rank may change, where these inherit what the leaf of its name has.
-use Rattle.cluster_core.proofs.Common.{Bool, Carries, Change, Covers, Dentry, Homes, Ino, Inode, IsFrozen, IsPick, HoldsAt, Leaf, List, MayTouchEach, MayTouchIn, None, Option, Pin, Rank, Roots, Rules, Some, Spot, Standing, Tree, ap, cond, dentry_at, directory_at, directory_gone, false, get-empty, holding, IfSome, in_directory, inl, is_dir_kind, is_some, leaf_cmp, leaf_of, leaves_gone, leaves_of, not_none, refl, same_Some, subst, sym, thawed_rules, true, ℕ, ◌∙◌, ◌≡◌}
+use Rattle.cluster_core.proofs.Common.{Bool, Carries, Change, Covers, Dentry, Homes, Ino, Inode, IsFrozen, HoldsAt, Leaf, List, MayTouchEach, MayTouchIn, None, Option, Pin, Rank, Roots, Rules, Some, Spot, Standing, Tree, ap, cond, dentry_at, directory_at, directory_gone, false, get-empty, holding, IfSome, in_directory, inl, is_dir_kind, is_some, leaf_cmp, leaf_of, leaves_gone, leaves_of, not_none, refl, same_Some, subst, sym, thawed_rules, true, ℕ, ◌∙◌, ◌≡◌}
 use Rattle.std.specs.FinMap as map
 use Rattle.cluster_core.proofs.GrantLaws.{of_each}
 use Rattle.inode_table.specs.TreeTable.{HoldsHomes, home_at}

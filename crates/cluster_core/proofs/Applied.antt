@@ -1,5 +1,5 @@
 -- A book stays sound where a request is applied.
-use Rattle.cluster_core.proofs.Common.{Answer, AreCached, AreExported, AreRoots, AreSupplied, Bool, Core, Entry, Ino, IsApplied, IsFresh, IsLawfulFrom, IsNextFrom, IsSoundWith, IsLawful, IsSound, IsSupplied, IsSupply, List, None, Opening, Option, Outcome, Rank, Request, Some, State, Supply, Tree, [], after, after-push, after_from, after_taking, ap, arith, cond, end_number, entry_of, eqb, eqb-false, eqb-true, false, first_number, get_or, get_or-set_other, get_or-set_same, is_some, legal-push, length, length-set, nat_lt, nat_tests, no_supply, number_of, number_or, offer, outcome_of, refl, set, shown, step, supply_of, sym, table-push, true, true≢false, unused, used-push, with_entry, with_waiting, ℕ, ⊎_elim, ◌++◌, ◌<◌, ◌∙◌, ◌∷◌, ◌≡◌, ◌≢◌, ◌≤◌}
+use Rattle.cluster_core.proofs.Common.{Answer, AreCached, AreExported, AreRoots, AreSupplied, Bool, Core, Entry, Ino, IsApplied, IsFresh, IsLawfulFrom, IsNextFrom, IsSoundWith, IsSound, IsSupplied, IsSupply, List, None, Opening, Option, Outcome, Rank, Request, Some, State, Supply, Tree, [], after_from, after_taking, ap, arith, cond, end_number, entry_of, eqb, eqb-false, eqb-true, false, first_number, get_or, get_or-set_other, get_or-set_same, is_some, length, length-set, nat_lt, nat_tests, no_supply, number_of, number_or, offer, outcome_of, refl, set, shown, step, supply_of, sym, table-push, true, true≢false, unused, with_entry, with_waiting, ℕ, ⊎_elim, ◌++◌, ◌<◌, ◌∙◌, ◌∷◌, ◌≡◌, ◌≢◌, ◌≤◌}
 use Rattle.cluster_core.proofs.OpeningLaws.{after_from-push, legal_from-push, used_from-push}
 
 -- what an offer of a number comes to: the table took it, or it took none and the outcome is that of any number

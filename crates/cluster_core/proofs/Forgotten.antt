@@ -1,11 +1,11 @@
 -- What is forgotten stays so at every step, and what is kept of it is set aside.
-use Rattle.cluster_core.proofs.Common.{Administers, Answer, AreCached, AreExported, AreRanks, AreSetAside, AreSettled, Arrive, ArrivesAt, BeginsAt, Bool, Cancel, CancelsAt, CommitBegin, CommitDrop, CommitEnd, CommitTree, Core, Does, Drops, EndsJobOf, Entry, Err, Event, Evict, EvictsOne, Exports, Finish, FinishesIn, Freeze, FreezesIn, Grant, GrantsFirst, Import, ImportsExport, IsApplied, IsForwarded, IsLeft, IsLegalFrom, IsSound, IsSoundBehind, IsTableOf, Opening, StandsBehind, IsTakenOut, IsUnseen, KeepsSettled, KeptState, after_from, places_of, Leaf, List, MatchBool, TreeMayRefuse, Merge, MergesLeaves, None, NotAuthority, Ok, Op, Option, Prep, PrepsIn, Purge, Purges, Rank, Refusal, Request, Result, SavesTree, Send, SendsExport, Serve, ServesInbox, ServesRequest, Some, Split, SplitsLeaf, Start, StartsIn, State, Table, Tree, [], ap, append_assoc, append-nil, arith, drop, entry_of, false, first_waiting, inl, inr, length, length-append, list_any, nat_lt, told_nothing, refl, shown, subst, sym, take, told_job, true, waiting_at, with_entry, with_waiting, ℕ, ◌++◌, ◌+◌, ◌-◌, ◌<◌, ◌≤◌, ◌∙◌, ◌∷◌, ◌≡◌, ◌⊎◌, offer, cond, outcome_of, supply_of}
-use Rattle.mds_types.specs.History.{after, IsKeptAt, IsLegal, IsTrimmed, is_pair, mark}
+use Rattle.cluster_core.proofs.Common.{Administers, Answer, AreSetAside, AreSettled, Arrive, ArrivesAt, BeginsAt, Bool, Cancel, CancelsAt, CommitBegin, CommitDrop, CommitEnd, CommitTree, Core, Does, Drops, EndsJobOf, Entry, Err, Event, Evict, EvictsOne, Exports, Finish, FinishesIn, Freeze, FreezesIn, Grant, GrantsFirst, Import, ImportsExport, IsApplied, IsLeft, IsLegalFrom, IsSound, IsSoundBehind, IsTableOf, Opening, StandsBehind, IsTakenOut, IsUnseen, KeepsSettled, KeptState, after_from, places_of, Leaf, List, MatchBool, TreeMayRefuse, Merge, MergesLeaves, None, NotAuthority, Ok, Op, Option, Prep, PrepsIn, Purge, Purges, Rank, Refusal, Request, Result, SavesTree, Send, SendsExport, Serve, ServesInbox, ServesRequest, Some, Split, SplitsLeaf, Start, StartsIn, State, Table, Tree, [], ap, append_assoc, arith, drop, entry_of, false, first_waiting, inl, inr, length, length-append, list_any, nat_lt, told_nothing, refl, shown, subst, sym, take, told_job, true, waiting_at, with_entry, ℕ, ◌++◌, ◌+◌, ◌<◌, ◌≤◌, ◌∙◌, ◌∷◌, ◌≡◌, ◌⊎◌, offer, cond, outcome_of, supply_of}
+use Rattle.mds_types.specs.History.{after, IsKeptAt, IsTrimmed, is_pair, mark}
 use Rattle.mds_types.specs.declared.ids.Ino.{Ino}
 use Rattle.mds_types.specs.declared.ids.Rank.{Rank as RankNumber}
 use Rattle.sessions.proofs.AsideLaws.{aside_push, forgot_all}
 use Rattle.sessions.specs.Aside.{forget_all}
-use Rattle.cluster_core.specs.Settled.{HasUnsettled, IsCalmOp}
+use Rattle.cluster_core.specs.Settled.{IsCalmOp}
 use Rattle.std.proofs.Common.{IfSome, ap₂, eq-eqb, suc, zero, ⊎_elim, ◌&&◌}
 use Rattle.std.proofs.lemmas.Bool.{cases_lt}
 use Rattle.std.proofs.lemmas.List.{drop-append-le, get_or_default, length-drop, take-append-drop}

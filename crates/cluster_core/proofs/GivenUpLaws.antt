@@ -1,5 +1,5 @@
 -- A book stays sound where a request is given up.
-use Rattle.cluster_core.proofs.Common.{AreCached, AreExported, AreSetAside, AreSettled, Core, Entry, Inboxes, IsSound, IsSoundBehind, List, Opening, Pin, Rank, Request, Table, [], ap, arith, length, length-set, refl, subst, sym, waiting_at, with_waiting, without_request, ◌++◌, ◌∙◌, ◌∷◌, ◌≡◌}
+use Rattle.cluster_core.proofs.Common.{AreSetAside, AreSettled, Core, Entry, Inboxes, IsSound, IsSoundBehind, List, Opening, Pin, Rank, Request, Table, [], ap, length, length-set, subst, sym, with_waiting, without_request, ◌++◌, ◌∙◌, ◌∷◌, ◌≡◌}
 use Rattle.cluster_core.specs.GivenUp.{GivesUpIn, with_waiters}
 
 -- what waits and what is granted has no part in that, but that there is an inbox for each rank

@@ -1,5 +1,5 @@
 -- What was found and why a request isn't made ready, said of the tree before its checks or after them.
-use Rattle.cluster_core.proofs.Common.{Bool, Change, Checked, Checks, Dirfrag, Entry, Err, HoldsAt, Ino, IsAsked, IsChangeOf, IsChecked, KeepsRanked, LacksNumber, List, MatchBool, MayTouchAllIn, MustWaitIn, NoMemory, None, Op, Option, Outcome, Pin, Rank, Ranked, Refusal, Request, Roots, Some, Standing, Supply, WhyUnprepared, ap, because, faults_in, held_roots, held_still, inl, inr, keeps_itself, keeps_refused, refl, shown_tree, step, subst, sym, where_refused, ℕ, ◌∙◌, ◌≡◌, ◌⊎◌}
+use Rattle.cluster_core.proofs.Common.{Bool, Change, Checked, Checks, Dirfrag, Err, HoldsAt, Ino, IsAsked, IsChangeOf, IsChecked, KeepsRanked, LacksNumber, List, MatchBool, MayTouchAllIn, MustWaitIn, NoMemory, None, Op, Option, Outcome, Pin, Rank, Ranked, Refusal, Request, Roots, Some, Standing, Supply, WhyUnprepared, ap, because, faults_in, held_roots, held_still, inl, inr, keeps_itself, keeps_refused, refl, shown_tree, step, subst, sym, where_refused, ℕ, ◌∙◌, ◌≡◌, ◌⊎◌}
 use Rattle.dentry_cache.specs.Reads.Reads.{stays}
 use Rattle.sessions.specs.Rooms.{Held}
 use Rattle.cluster_core.specs.declared.parts.Asked.{Asked}
@@ -23,7 +23,7 @@ pub unprepared : (old : Ranked) (op : Op) (change : Change) (n : ℕ) (outcome :
 unprepared old op change n outcome offered Holds reason checked why = record { kept = go why; because = told why }
   where
     itself : faults_in reason ≡ 0 → KeepsRanked old old op (Some reason)
-    itself none = record { tree = keeps_refused old.tree old.tree reason none (keeps_itself old.tree); roots = refl; exports = refl; reads = stays }
+    itself none = record { tree = keeps_refused old.tree old.tree reason none (keeps_itself old.tree); roots = refl; exports = refl; reads = (None, λ none. refl, stays) }
 
     go : WhyUnprepared change offered reason → KeepsRanked old old op (Some reason)
     go (inl memory) = itself (ap faults_in memory)

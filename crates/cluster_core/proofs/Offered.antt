@@ -1,5 +1,5 @@
 -- The number that a rank offers next is unused in the tree that a sound cluster shows, and in a rank's range.
-use Rattle.cluster_core.proofs.Common.{AreMastersThere, AreRanks, Bool, Core, Entry, Ino, IsOffered, IsRankNumber, IsSound, IsSupplied, IsUnused, List, MatchBool, None, Opening, Option, Rank, Rules, Some, Supply, ap, arith, cond, dentry_of, destination_of, end_number, false, is_directory, length, ltb-true, main_leaf, nat_lt, nat_tests, numbers_used, offer, refl, shown, supply_of, sym, true, ◌<◌, ◌∙◌, ◌≡◌}
+use Rattle.cluster_core.proofs.Common.{AreMastersThere, AreRanks, Bool, Core, Entry, Ino, IsOffered, IsRankNumber, IsSound, IsSupplied, IsUnused, List, MatchBool, None, Opening, Option, Rank, Rules, Some, Supply, ap, arith, cond, dentry_of, destination_of, end_number, false, is_directory, length, ltb-true, main_leaf, nat_lt, nat_tests, offer, refl, shown, supply_of, sym, true, ◌<◌, ◌∙◌, ◌≡◌}
 use Rattle.std.specs.FinMap as map
 use Rattle.cluster_core.proofs.OpeningLaws.{numbers_from}
 

@@ -1,10 +1,9 @@
 -- A step and a whole run, in words of one plain tree served by one thread.
-use Rattle.cluster_core.proofs.Common.{AddsTo, Agree, Answer, BookState, Bool, Contains, Deferred, Entry, Err, Event, Forwarded, InOrder, Inboxes, IsAskedFor, IsHeld, IsLegalFrom, IsOfHistory, IsOneThread, IsOneThreadThroughout, IsSent, IsSoundBook, List, MatchBool, NoneTwice, Nothing, Ok, Opening, Receipt, Refusal, Reply, Request, Result, Runs, Sent, Steps, Tree, [], after, after_from, ap, append-nil, append_assoc, arith, arrival, arrivals, cond, false, first_places, length, length-append, list_any, receipt_of, receipts_of, refl, shown, subst, suc, sym, take, true, waiting_in, zero, ℕ, ◌++◌, ◌+◌, ◌<◌, ◌||◌, ◌∙◌, ◌∷◌, ◌≡◌, ◌≤◌}
+use Rattle.cluster_core.proofs.Common.{AddsTo, Agree, Answer, BookState, Bool, Contains, Deferred, Entry, Err, Event, Forwarded, InOrder, Inboxes, IsAskedFor, IsHeld, IsLegalFrom, IsOfHistory, IsOneThread, IsOneThreadThroughout, IsSent, IsSoundBook, List, MatchBool, NoneTwice, Nothing, Ok, Opening, Receipt, Refusal, Reply, Request, Result, Runs, Sent, Steps, [], after_from, ap, append-nil, append_assoc, arith, arrival, arrivals, cond, false, first_places, length, length-append, list_any, receipt_of, receipts_of, refl, shown, subst, suc, sym, take, true, waiting_in, zero, ℕ, ◌++◌, ◌+◌, ◌<◌, ◌||◌, ◌∙◌, ◌∷◌, ◌≡◌, ◌≤◌}
 use Rattle.std.specs.List.{AllByRecursion}
 use Rattle.std.specs.Prelude.{nat_eq}
 use Rattle.std.proofs.lemmas.Bool.{ne_eqb}
 use Rattle.std.proofs.lemmas.List.{take_at}
-use Rattle.mds_types.specs.History.{IsLegal}
 use Rattle.cluster_core.proofs.Records.{AppendsOne}
 use Rattle.cluster_core.specs.declared.events.Answer.TheVariants.{Job}
 use Rattle.cluster_core.proofs.LimitStays.{limit_stays}

@@ -1,6 +1,6 @@
 -- Laws of histories that begin with stand-ins: what one more entry changes; and behind the stand-ins the history is
 -- legal from the tree, so each number of the tree was given.
-use Rattle.cluster_core.proofs.Common.{Bool, Dentry, Entry, Ino, Inode, IsGiven, IsLawful, IsLawfulFrom, IsLegalFrom, IsNextFrom, IsUsed, IsUsedFrom, List, None, Opening, Option, Some, Tree, [], after, after-push, after_from, ap, arith, cases_lt, cond, drop, false, fresh, get_or-append_seam, get_or_append_left, inl, inr, length, length-append, list_any, numbers_used, refl, since, slice_index_or, subst, sym, take, true, used-push, ℕ, ⊎_elim, ◌+◌, ◌++◌, ◌<◌, ◌∙◌, ◌∷◌, ◌≡◌, ◌≤◌, ◌⊎◌}
+use Rattle.cluster_core.proofs.Common.{Bool, Dentry, Entry, Ino, Inode, IsGiven, IsLawful, IsLawfulFrom, IsLegalFrom, IsNextFrom, IsUsed, IsUsedFrom, List, None, Opening, Option, Some, Tree, [], after, after-push, after_from, ap, arith, cases_lt, drop, false, fresh, get_or-append_seam, get_or_append_left, inl, inr, length, length-append, list_any, numbers_used, since, slice_index_or, subst, sym, take, true, used-push, ℕ, ⊎_elim, ◌+◌, ◌++◌, ◌<◌, ◌∙◌, ◌∷◌, ◌≡◌, ◌≤◌, ◌⊎◌}
 use Rattle.std.specs.Prelude.{if◌then◌else◌, max, ◌==◌, ◌||◌}
 use Rattle.std.specs.FinMap as map
 use Rattle.std.proofs.Math.Seq.{drop-append_seam, take-append_seam, take-append-add}

@@ -9,7 +9,7 @@ use Rattle.cluster_core.specs.Resumed.{AreRaised, IsRaised, TellsAll, resumes, s
 -- ---- a book goes on
 
 -- what is given is below the number that was stored for its rank
-given_below : (first : ℕ) (nexts : List ℕ) (s : Supply) → Contains (supplies_from first nexts) s → (k : ℕ) × (s.rank ≡ first + k) × (s.next ≡ get_or nexts k 0)
+pub given_below : (first : ℕ) (nexts : List ℕ) (s : Supply) → Contains (supplies_from first nexts) s → (k : ℕ) × (s.rank ≡ first + k) × (s.next ≡ get_or nexts k 0)
 given_below first [] s (k, below, is) = absurd (omega (arith, below))
 given_below first (next ∷ nexts) s (zero, below, is) = (0, ap (λ (t : Supply). t.rank) (sym is) ∙ omega arith, ap (λ (t : Supply). t.next) (sym is))
 given_below first (next ∷ nexts) s (suc k, below, is) =

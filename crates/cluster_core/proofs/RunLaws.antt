@@ -2,7 +2,6 @@
 use Rattle.cluster_core.proofs.Common.{AddsTo, Administers, Answer, Arrive, ArrivesAt, BeginsAt, Bool, Cancel, CancelsAt, CommitBegin, CommitDrop, CommitEnd, CommitTree, Core, Deferred, Does, Drops, EndsJobOf, Entry, Err, Event, Evict, EvictsOne, Exports, Finish, FinishesIn, Forwarded, Freeze, FreezesIn, Grant, GrantsFirst, Import, ImportsExport, InboxEmpty, IsApplied, IsLeft, IsOfHistory, IsRepeated, IsRun, IsSoundBook, BookState, Leaf, List, MatchBool, TreeMayRefuse, Merge, MergesLeaves, None, NotAuthority, Nothing, Ok, Op, Option, Prep, PrepsIn, Purge, Purges, Rank, Refusal, Reply, Request, Result, Runs, SavesTree, Send, SendsExport, Sent, Serve, ServesInbox, ServesRequest, Some, Split, SplitsLeaf, StandsInHistory, Start, StartsIn, State, StepsBook, [], and_parts, ap, append-nil, append_assoc, arith, drop, drop_more, entry_of, eqb-true, false, first_waiting, get_or, get_or-append_seam, get_or_append_left, inl, inr, length, length-append, length-drop, nat_lt, told_nothing, refl, slice_index_or, subst, suc, sym, take, take_all, take_more, told_job, true, waiting_at, ℕ, ◌++◌, ◌+◌, ◌-◌, ◌<◌, ◌∙◌, ◌∷◌, ◌≡◌, ◌≤◌}
 use Rattle.mds_types.specs.declared.replies.Reply.{Reply as Replied}
 use Rattle.cached_frag.specs.declared.jobs.Job.{Job as Begun}
-use Rattle.cluster_core.specs.declared.events.Answer.TheVariants.{Job}
 use Rattle.cluster_core.specs.Runs.{GoesOnFrom}
 
 -- what one step leaves of the history, and what its answer says of it

@@ -1,12 +1,14 @@
 -- Rows that tell all of a book but what changed do so behind each step.
 use Rattle.cluster_core.proofs.Common.{Answer, Core, Entry, Event, Ino, IsGiven, IsSupplied, IsUsedFrom, KeptState, List, None, Opening, Option, Refusal, Result, Some, StandsBehind, Steps, Supply, Table, [], ap, arith, cond, entries-empty, false, fresh, get_or, inl, inr, length, ltb-true, nat_lt, no_supply, offer, refl, replicate, subst, sym, with_entry, ℕ, ⊎_elim, ◌++◌, ◌<◌, ◌∙◌, ◌∷◌, ◌≡◌, ◌≤◌, ◌⊎◌}
 use Rattle.std.specs.FinMap as map
-use Rattle.std.proofs.Common.{map as list_map}
+use Rattle.std.proofs.Common.{Bool, map as list_map, true}
+use Rattle.std.specs.Ordering.{nat_cmp}
+use Rattle.sorted_map.specs.SortedMap.{is_from}
+use Rattle.mds_types.specs.declared.replies.Reply.{Reply}
 use Rattle.mds_types.specs.Tree.{numbers}
 use Rattle.inode_table.specs.Numbers.{end_number, first_number}
-use Rattle.std.proofs.lemmas.List.{get_or-replicate}
 use Rattle.keeping.specs.Rows.{SessionRows}
-use Rattle.session_rows.proofs.RestoreLaws.{none_spelled}
+use Rattle.session_rows.specs.Sessions.{SpellsSessions}
 use Rattle.sessions.specs.Replies.{ArePairsOnce}
 use Rattle.sessions.specs.Restored.{IsStoredBut}
 use Rattle.sessions.specs.Table.{all_stored, with_changed}
@@ -90,18 +92,22 @@ kept_told rows opening past book told = record {
 }
 
 -- a new book, over a store without rows
-pub new_told : NoRowsTellOfANewBook
-new_told core none = record {
+pub new_told : SpellsSessions map.empty [] (replicate 16 0) → NoRowsTellOfANewBook
+new_told none_spelled core none = record {
   stored = [];
   nexts = replicate 16 0;
-  spelled = none_spelled (replicate 16 0) refl (λ i. get_or-replicate 16 0 i);
+  spelled = none_spelled;
   once = λ k e below. absurd (omega (arith, below));
-  clients = record { marks = λ client still. refl; replies = λ client tid still. refl };
+  clients = record { marks = λ client still. refl; replies = λ client tid still. sym (both_none (is_from nat_cmp 0 tid)) };
   numbers = λ n used. first n used;
 }
   where
+    both_none : (b : Bool) → cond {A = Option Reply} b None None ≡ None
+    both_none true = refl
+    both_none false = refl
+
     first : (n : ℕ) → IsUsedFrom (fresh map.empty) [] n → IsOfRanks (length core.state.numbers) n ⊎ IsSpent (replicate 16 0) n
-    first n (inl (s, (k, below, is), _)) = absurd (omega (arith, below))
+    first n (inl (s, (k, below, is), _, _, _)) = absurd (omega (arith, below))
     first n (inr (inl root)) = inr (inl root)
     first n (inr (inr (inl (k, below, is)))) =
         let none : length (numbers map.empty) ≡ 0 = ap (λ es. length (list_map (λ (e : _). e.1.ino.0) es)) entries-empty in

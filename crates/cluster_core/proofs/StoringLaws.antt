@@ -25,7 +25,7 @@ supply_among first (next ∷ nexts) (suc k) below =
 -- a number below the next of its rank is given
 given_in : (nexts : List ℕ) (rank n : ℕ) → rank < length nexts → first_number rank ≤ n → n < end_number rank → n < get_or nexts rank 0 → IsGiven (supplies_from 0 nexts) n
 given_in nexts rank n among low high below =
-    (record { rank = rank; next = get_or nexts rank 0 }, supply_among 0 nexts rank among, low, high, below)
+    (record { rank = rank; next = get_or nexts rank 0 }, subst (λ (r : ℕ). Contains (supplies_from 0 nexts) (record { rank = r; next = get_or nexts rank 0 })) (omega arith) (supply_among 0 nexts rank among), low, high, below)
 
 -- in a list behind another
 behind : (xs ys : List ℕ) (k : ℕ) → length xs ≤ k → get_or (xs ++ drop (length xs) ys) k 0 ≡ get_or ys k 0
@@ -40,7 +40,7 @@ module _ (opening : Opening) (history : List Entry) (numbers : List Supply) (nex
       let its = supplied rank among in
       let below : n < (get_or numbers rank no_supply).next = its.fresh n (omega (arith, low, its.own)) (omega (arith, high, its.own)) used in
       let inside : rank < length nexts = omega (arith, among, are.as_many) in
-      let first : get_or (with_nexts nexts before) rank 0 ≡ get_or nexts rank 0 = get_or_append_left nexts (drop (length nexts) before) rank 0 inside in
+      let first : get_or (with_nexts nexts before) rank 0 ≡ get_or nexts rank 0 = get_or_append_left nexts (drop (length nexts) before) 0 rank inside in
       given_in (with_nexts nexts before) rank n (omega (arith, inside, length-append nexts (drop (length nexts) before))) low high
       (omega (arith, below, first, are.each rank among))
 
@@ -75,7 +75,7 @@ pub one_next : (count : ℕ) (numbers : List Supply) (nexts : List ℕ) (next : 
 one_next count numbers nexts next are is = record {
   as_many = length-append nexts (next ∷ []) ∙ omega (arith, are.as_many);
   each = λ rank below. ⊎_elim
-      (λ (low : rank < count). get_or_append_left nexts (next ∷ []) rank 0 (omega (arith, low, are.as_many)) ∙ are.each rank low)
+      (λ (low : rank < count). get_or_append_left nexts (next ∷ []) 0 rank (omega (arith, low, are.as_many)) ∙ are.each rank low)
       (λ (high : count ≤ rank).
       let last : rank ≡ count = omega (arith, below, high) in
       rw last (get_or_push nexts next 0 count are.as_many ∙ is))

@@ -1,5 +1,5 @@
 -- What serving and granting make of the caches, from what their parts did.
-use Rattle.cluster_core.proofs.Common.{Answer, AppliesRequest, Asks, AsksFor, CacheMap, Came, Change, ChangesOp, Concerns, Deferred, Entry, Err, Forwarded, InboxFull, Inboxes, Ino, IsChangeOf, IsChangedHeld, IsGone, IsOfFragments, LacksPlacesAsked, List, NamesDir, NoMemory, None, NoneEnds, Nothing, Ok, Op, Option, Outcome, Pin, Rank, Ranked, Reads, ReadsOp, Refusal, Replies, Reply, Request, Result, Roots, Sent, Some, State, Table, Trimmed, UsesApplied, UsesFront, UsesRequest, ap, came_weaker, change_concerns, false, held_roots, inl, inr, reads_then, reads_weaker, refl, refused_so, shape, shown_tree, slice_get, subst, sym, true, [], ℕ, ◌∷◌, ◌≡◌, ◌⊎◌, ⊎_elim}
+use Rattle.cluster_core.proofs.Common.{Answer, AppliesRequest, Asks, AsksFor, CacheMap, Came, Change, ChangesOp, Concerns, Deferred, Entry, Err, Forwarded, InboxFull, Inboxes, Ino, IsChangeOf, IsChangedHeld, IsGone, IsOfFragments, LacksPlacesAsked, List, NamesDir, NoMemory, None, NoneEnds, Nothing, Ok, Op, Option, Outcome, Pin, Rank, Ranked, ReadsOp, Refusal, Replies, Reply, Request, Result, Roots, Sent, Some, State, Table, Trimmed, UsesApplied, UsesFront, UsesRequest, ap, came_weaker, change_concerns, false, held_roots, inl, inr, reads_then, reads_weaker, refl, refused_so, shape, shown_tree, slice_get, subst, sym, true, [], ℕ, ◌∷◌, ◌≡◌, ◌⊎◌, ⊎_elim, ◌∙◌}
 use Rattle.mds_types.specs.declared.replies.Reply.{Reply as Replied}
 use Rattle.dentry_cache.specs.Cache.{Leaf}
 use Rattle.dentry_cache.specs.Came.Came.{stays as nothing_came}
@@ -10,7 +10,7 @@ use Rattle.mdcache.specs.State.{State as TreeState}
 use Rattle.namespace_ops.specs.Changes.{reply_of}
 use Rattle.ranked_tree.specs.Held.{ComesFor, ComesWith}
 use Rattle.ranked_tree.specs.Ranked.{MayRefuse}
-use Rattle.ranked_tree.proofs.ReadsForLaws.{comes_in}
+use Rattle.ranked_tree.proofs.ReadsForLaws.{comes_for, number_put}
 use Rattle.cluster_core.specs.Uses.{UsesWaiting, number_answered, number_told}
 use Rattle.cluster_core.specs.declared.events.Answer.TheVariants.{Job}
 use Rattle.cluster_core.proofs.FrontLaws.{at_front}
@@ -92,9 +92,10 @@ module _ (old : TreeCore) (roots : Roots) (op : Op) (change : Change) where
 
   asked_by : IsChangeOf op change → (r : ℕ) (q : Leaf) → Named r q → Asked r q
   asked_by one r q (inl held) = inl (change_concerns (shape op) change one q.0.0 held.0, held.1, held.2)
-  asked_by one r q (inr (spot, inode, same, kinded, comes)) =
-      inr (subst (λ (n : Option Ino). ComesFor (tree_state old) roots op n r q) (sym (ap (λ (c : Change). number_told (reply_of c)) same))
-      (comes_in (tree_state old) roots (shape op) spot inode (subst (IsChangeOf op) same one) kinded r q comes))
+  asked_by one r q (inr comes) =
+      inr (subst (λ (n : Option Ino). ComesFor (tree_state old) roots op n r q)
+      (ap (λ (c : Change). number_put c.puts) comes.2 ∙ sym (ap (λ (c : Change). number_told (reply_of c)) comes.2))
+      (comes_for (tree_state old) roots op change one r q comes))
 
 pub changed_uses : (old new : TreeCore) (roots : Roots) (op : Op) (change : Change) → IsChangeOf op change → IsChangedHeld roots change old new
     → ChangesOp (tree_state old) (tree_state new) roots op (number_told (reply_of change)) old.caches new.caches

@@ -79,7 +79,7 @@ pub record GoesOnFrom (rows : SessionRows) (book : KeptState) : Type 0 where
       → shown book.core.state ≡ after_from book.core.state.tree.limit opening history
       → Tells rows opening history → Continue book.core.state.tree.limit opening history
       (resumes (shown book.core.state) (stand_ins stored) nexts) (stand_ins stored)
-  pub told : (opening : Opening) (history : List Entry)
+  pub told : (opening : Opening) (history : List Entry) → IsLegalFrom book.core.state.tree.limit opening history
       → shown book.core.state ≡ after_from book.core.state.tree.limit opening history → Tells rows opening history
       → TellsBut rows (resumes (shown book.core.state) (stand_ins stored) nexts) (stand_ins stored) book.core
 
@@ -89,6 +89,14 @@ StoredSessionsGoOn =
     (limit : ℕ) (opening : Opening) (history : List Entry) (rows : SessionRows) (stored : List Stored) (nexts : List ℕ)
     (table : Table) → IsLegalFrom limit opening history → Tells rows opening history → SpellsSessions rows stored nexts → IsRestored stored table → Continue limit opening history
     (resumes (after_from limit opening history) (stand_ins stored) nexts) (stand_ins stored)
+
+-- and the rows tell all of the stand-ins, whichever cluster has them
+abbrev pub ToldOfStandIns : Type 0
+ToldOfStandIns =
+    (limit : ℕ) (opening : Opening) (history : List Entry) (rows : SessionRows) (stored : List Stored) (nexts : List ℕ)
+    (table : Table) → IsLegalFrom limit opening history → Tells rows opening history → SpellsSessions rows stored nexts
+    → IsRestored stored table → (core : Core)
+    → TellsBut rows (resumes (after_from limit opening history) (stand_ins stored) nexts) (stand_ins stored) core
 
 -- a store that keeps no rows tells all of a new book
 abbrev pub NoRowsTellOfANewBook : Type 0

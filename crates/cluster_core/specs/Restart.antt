@@ -2,7 +2,6 @@
 use Rattle.std.specs.Prelude.{ℕ, List, Err}
 use Rattle.mds_types.specs.declared.entries.Entry.{Entry}
 use Rattle.cluster_core.specs.Opening.{Opening}
-use Rattle.mds_types.specs.declared.refusals.Refusal.{Refusal}
 use Rattle.objstore.specs.Objects.{Objects}
 use Rattle.cold_store.specs.ColdTree.{IsColdTree}
 use Rattle.mdcache.specs.Mounted.{MayNotMount}

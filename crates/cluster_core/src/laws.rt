@@ -2,10 +2,12 @@
 ghost use Rattle.cluster_core.specs.Checks.{MergesByChecks, SplitsByChecks};
 ghost use Rattle.cluster_core.specs.Commits.{JobsKeepObjects, JobsTakeWhatIsShown};
 ghost use Rattle.cluster_core.specs.Forgetting.{ABeginningMayGo, AllIsOneHistory, NoneIsNewAgain};
-ghost use Rattle.cluster_core.specs.KeptSessions.{KeptStaysTold, NoRowsTellOfANewBook, StepsStayTold, StoredSessionsGoOn};
+ghost use Rattle.cluster_core.specs.KeptSessions.{KeptStaysTold, NoRowsTellOfANewBook, StepsStayTold, StoredSessionsGoOn, ToldOfStandIns};
 ghost use Rattle.cluster_core.specs.Opening.{BeginsAfresh, RestartsAreOneHistory};
 ghost use Rattle.cluster_core.specs.Exporting.{ImportsWhatIsTold, TellsOneBytes, TellsWhatSendGave};
 ghost use Rattle.cluster_core.specs.Teeth.{OneThreadInventsNothing, OneThreadTellsAll};
+
+use session_rows::laws::sessions_are_spelled_once;
 
 /// While a commit is under way, whatever steps are made, the object of its fragment is the one of the moment at which
 /// the job was given out. The end of the commit therefore spells what the fragment showed at that moment.
@@ -69,10 +71,13 @@ pub fn restarts_are_one_history()
 
 /// What a store keeps of sessions is enough to go on from: if rows tell all of a history, then the stand-ins of what
 /// they spell continue it. A repeat of a request that the history keeps is answered as before, or is too old. What is
-/// legal behind the stand-ins is legal behind the history.
+/// legal behind the stand-ins is legal behind the history. And the rows tell all of the stand-ins.
 pub fn stored_sessions_go_on()
-    ensures { StoredSessionsGoOn }
-{}
+    ensures goes_on { StoredSessionsGoOn }
+    ensures told { ToldOfStandIns }
+{
+    sessions_are_spelled_once();
+}
 
 /// Rows that tell all of a book's sessions but those of the changed clients do so from its beginning on, whatever it
 /// does: a store without rows at a new book, any rows behind a step, and the rows that `Book::keep` made.
@@ -80,4 +85,6 @@ pub fn rows_stay_told()
     ensures start { NoRowsTellOfANewBook }
     ensures stepped { StepsStayTold }
     ensures kept { KeptStaysTold }
-{}
+{
+    sessions_are_spelled_once();
+}

@@ -3,7 +3,6 @@ ghost use Rattle.std.specs.Prelude.{◌≡◌, ◌++◌, List, IfOk, IfSome};
 ghost use Rattle.mds_types.specs.Tree.{Tree};
 ghost use Rattle.mds_types.specs.declared.entries.Entry.{Entry as Applied};
 ghost use Rattle.cold_store.specs.ColdTree.{IsColdTree};
-ghost use Rattle.cluster_core.specs.KeptSessions.{KeepsSessions};
 ghost use Rattle.cluster_core.specs.Opening.{Opening, after_from};
 ghost use Rattle.cluster_core.specs.Sound.{StandsBehind, IsSoundKept};
 ghost use Rattle.kept_store.specs.Kept.{TakesEdits};
@@ -45,9 +44,8 @@ pub fn save<T: Settle + Drop>(
     ensures on_disk { (opening : Opening) (past : List Applied) → StandsBehind opening past book.old → IfOk result
         (λ s. IsClean (T.Store.view s.1.value.tables) → IsOnDisk (T.Store.recovers s.1.value.tables)
         (after_from book.old.core.state.tree.limit opening (past ++ book.old.history))) }
-    ensures sessions { IfOk result (λ s. KeepsSessions book.new
-        (λ edits. TakesEdits T.Store.view T.Store.recovers s.0.value edits s.1.value)) }
-    ensures saves { Saves book.old book.new result }
+    ensures saves { Saves (λ s edits. TakesEdits T.Store.view T.Store.recovers s.0.value edits s.1.value)
+        book.old book.new result }
     ensures goes_on { (opening : Opening) (past : List Applied) → StandsBehind opening past book.old
         → StandsBehind opening past book.new }
     ensures sound { IsSoundKept book.new }

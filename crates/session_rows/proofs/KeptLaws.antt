@@ -1,16 +1,15 @@
 -- What is kept of a client can be stored: the numbers of its replies ascend from its mark.
-use Rattle.session_rows.proofs.Common.{Ascend, List, Reply, Some, [], ap, arith, refl, subst, sym, ℕ, ◌++◌, ◌+◌, ◌<◌, ◌∙◌, ◌∷◌, ◌≡◌, ◌≤◌}
-use Rattle.std.proofs.Common.{Bool, T, map, true}
+use Rattle.session_rows.proofs.Common.{Ascend, List, Reply, Some, [], ap, arith, refl, subst, ℕ, ◌++◌, ◌+◌, ◌<◌, ◌∙◌, ◌∷◌, ◌≡◌, ◌≤◌}
+use Rattle.std.proofs.Common.{map, true}
 use Rattle.std.proofs.lemmas.Bool.{and_parts, false≢true}
 use Rattle.std.specs.Cmp.{ranks}
 use Rattle.std.specs.FinMap as finmap
 use Rattle.std.specs.FinMap.{get-entries, is_sorted}
 use Rattle.std.specs.FinMap.Entries.{below_all, find}
-use Rattle.std.specs.Ordering.{MatchOrdering, is_eq, is_lt, nat_cmp}
+use Rattle.std.specs.Ordering.{MatchOrdering, is_lt, nat_cmp}
 use Rattle.std.specs.declared.cmp.Ordering.{Ordering}
 use Rattle.std.specs.declared.cmp.Ordering.TheVariants.{Equal, Greater, Less}
 use Rattle.mds_types.proofs.ByteOrderLaws.{equal}
-use Rattle.mds_types.specs.History.{mark}
 use Rattle.mds_types.specs.declared.entries.Entry.{Entry}
 use Rattle.sessions.proofs.ReplyLaws.{sorted_entries, sorted_replies}
 use Rattle.sessions.specs.Replies.{kept_replies, replies_at}

@@ -1,6 +1,7 @@
 pub mod Common
 pub mod KeptLaws
 pub mod KeyOrder
+pub mod OnceLaws
 pub mod RankLaws
 pub mod ReadLaws
 pub mod RestoreLaws

@@ -1,5 +1,5 @@
 -- One row more is read.
-use Rattle.session_rows.proofs.Common.{Bool, IsRow, List, None, Option, Reply, Row, Some, SpellsRow, Told, [], ap, arith, cond, false, length, little_bytes, none-some, refl, row_bytes, subst, sym, true, ℕ, ◌++◌, ◌<◌, ◌^◌, ◌∙◌, ◌∷◌, ◌≡◌}
+use Rattle.session_rows.proofs.Common.{Bool, IsRow, List, None, Option, Row, Some, SpellsRow, Told, [], ap, arith, cond, false, length, none-some, refl, row_bytes, subst, sym, true, ℕ, ◌++◌, ◌<◌, ◌^◌, ◌∙◌, ◌∷◌, ◌≡◌}
 use Rattle.std.proofs.Common.{eq-eqb, eqb-true, get_or, is_some, map, set, ◌==◌}
 use Rattle.std.proofs.lemmas.Bool.{false≢true}
 use Rattle.std.proofs.lemmas.Grind.{get_or-set_at}
@@ -8,14 +8,13 @@ use Rattle.std.proofs.lemmas.List.{get_or-set_other, length-set}
 use Rattle.std.specs.FinMap as finmap
 use Rattle.mds_types.specs.declared.ids.Ino.{Ino}
 use Rattle.mds_types.specs.declared.ids.Rank.{Rank as RankNumber}
-use Rattle.keeping.specs.Rows.{SessionRows}
 use Rattle.sessions.proofs.StoredLaws.{none_of, stored_with}
 use Rattle.sessions.specs.Rooms.{Held, table}
 use Rattle.sessions.specs.Stored.{Stored, stored_of}
 use Rattle.session_rows.proofs.SessionSteps.{client_set, rank_set}
 use Rattle.session_rows.specs.Keys.{client_bytes, rank_bytes}
 use Rattle.session_rows.specs.RankRows.{SpellsRank}
-use Rattle.session_rows.specs.Restoring.{IsReadOf, MayRead, MayTake, ReadsMore, TakesRow, stored_from}
+use Rattle.session_rows.specs.Restoring.{MayRead, MayTake, ReadsMore, TakesRow, stored_from}
 use Rattle.session_rows.specs.Sessions.{SpellsSessions, client_value, next_of, row_of, told_of}
 use Rattle.session_rows.specs.declared.restoring.Restored.{Restored}
 
@@ -33,7 +32,7 @@ pub rank_read : (old : Restored) (rank : RankNumber) (value : List ℕ) (next : 
 rank_read old rank value next at low same s rows is =
     let nexts = set old.nexts at next.0 in
     let got : (r : RankNumber) → r.0 < 16 → next_of nexts r ≡ cond (r.0 == rank.0) next.0 (next_of old.nexts r) = λ r few.
-        number_set old.nexts at next.0 (omega (arith, is.spelled.long, low, same)) r.0 ∙ ap (λ (k : ℕ). cond (r.0 == k) next.0 (next_of old.nexts r)) same in
+    number_set old.nexts at next.0 (omega (arith, is.spelled.long, low, same)) r.0 ∙ ap (λ (k : ℕ). cond (r.0 == k) next.0 (next_of old.nexts r)) same in
     let spelled = rank_set rows is.stored old.nexts nexts rank next.0 is.spelled low s.known (length-set old.nexts at next.0 ∙ is.spelled.long) got in
     record {
       stored = is.stored;
@@ -68,7 +67,7 @@ client_read client value old new row fits may s takes changed rows is =
     let m = may_take client old fits may in
     let one = stored_from client row in
     let unknown : stored_of is.stored client ≡ None =
-        none_of (stored_of is.stored client) (sym (is.restored.known client) ∙ m.known.known client ∙ ap is_some m.absent) in
+    none_of (stored_of is.stored client) (sym (is.restored.known client) ∙ m.known.known client ∙ ap is_some m.absent) in
     let can : IsRow (row_of one) = subst IsRow (sym (row_again client row)) s.known in
     let spelled = client_set rows is.stored (is.stored ++ one ∷ []) old.nexts client (Some one) is.spelled fits (fits, can) (stored_with is.stored one unknown) in
     let bytes : row_bytes (row_of one) ≡ value = ap row_bytes (row_again client row) ∙ sym s.spelled in

@@ -1,5 +1,5 @@
 -- All rows are read, one after the other.
-use Rattle.session_rows.proofs.Common.{AllByRecursion, Bool, Err, IsErrAnd, List, None, Ok, Option, Result, Some, [], ap, arith, cond, false, inl, length, refl, subst, suc, sym, true, zero, ℕ, ◌<◌, ◌∙◌, ◌∷◌, ◌≡◌}
+use Rattle.session_rows.proofs.Common.{AllByRecursion, Bool, Err, IsErrAnd, List, None, Ok, Result, Some, [], ap, cond, false, inl, length, refl, subst, suc, sym, true, zero, ℕ, ◌∙◌, ◌∷◌, ◌≡◌}
 use Rattle.std.proofs.Common.{T, get_or}
 use Rattle.std.specs.Cmp.{tied_itself}
 use Rattle.std.specs.Cmp.Lexicographic.{nat_list_cmp_total}
@@ -9,7 +9,6 @@ use Rattle.std.specs.FinMap.Entries.{below_all}
 use Rattle.std.specs.Ordering.{eq_by_cmp, is_eq, is_lt, ordering_reverse}
 use Rattle.std.specs.declared.cmp.Ordering.{Ordering}
 use Rattle.std.specs.declared.cmp.Ordering.TheVariants.{Equal, Greater, Less}
-use Rattle.mds_types.specs.declared.ids.Rank.{Rank as RankNumber}
 use Rattle.sorted_map.proofs.Bools.{left_of, right_of}
 use Rattle.sorted_map.proofs.OverlayLaws.{overlaid_none}
 use Rattle.sorted_map.specs.Overlay.{overlaid, with_pairs}
@@ -18,10 +17,10 @@ use Rattle.keeping.specs.Rows.{SessionRows}
 use Rattle.sessions.proofs.RestoredLaws.{restored_none}
 use Rattle.sessions.specs.Restored.{IsRestored}
 use Rattle.sessions.specs.Rooms.{Held, table}
-use Rattle.sessions.specs.Table.{Table, no_table}
+use Rattle.sessions.specs.Table.{no_table}
 use Rattle.session_rows.specs.Keys.{client_bytes, rank_bytes}
 use Rattle.session_rows.specs.Restoring.{IsReadOf, MayRead, ReadsMore, RefusesRow, RefusesRows, RestoresRows}
-use Rattle.session_rows.specs.Sessions.{IsStoredNext, SpellsSessions, next_of, rank_value}
+use Rattle.session_rows.specs.Sessions.{SpellsSessions, rank_value}
 use Rattle.session_rows.specs.declared.restoring.Restored.{Restored}
 use Rattle.session_rows.specs.declared.rows_faults.RowsFault.{RowsFault}
 
@@ -77,7 +76,7 @@ all_put : (rows : SessionRows) → with_pairs finmap.empty (finmap.entries rows)
 unfolding overlaid
 all_put rows = overlaid_none nat_list_cmp_total rows finmap.empty refl
 
-none_spelled : (nexts : List ℕ) → length nexts ≡ 16 → ((i : ℕ) → get_or nexts i 0 ≡ 0) → SpellsSessions finmap.empty [] nexts
+pub none_spelled : (nexts : List ℕ) → length nexts ≡ 16 → ((i : ℕ) → get_or nexts i 0 ≡ 0) → SpellsSessions finmap.empty [] nexts
 none_spelled nexts long none = record {
   clients = λ client fits. get-empty key_cmp (client_bytes client);
   ranks = λ rank low. get-empty key_cmp (rank_bytes rank) ∙ ap rank_value (sym (none rank.0));

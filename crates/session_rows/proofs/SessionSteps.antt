@@ -1,6 +1,6 @@
 -- Rows of what is stored, in which a client or a rank gets another value.
-use Rattle.session_rows.proofs.Common.{Bool, IsRow, List, None, Option, Some, [], ap, arith, cond, false, inr, length, little_bytes, refl, subst, sym, true, zero, suc, ℕ, ◌++◌, ◌+◌, ◌<◌, ◌^◌, ◌∙◌, ◌∷◌, ◌≡◌, ◌≤◌}
-use Rattle.std.proofs.Common.{eqb-true, get_or, ◌==◌}
+use Rattle.session_rows.proofs.Common.{Bool, List, None, Option, Some, ap, arith, cond, false, inr, length, little_bytes, refl, subst, sym, true, ℕ, ◌<◌, ◌^◌, ◌∙◌, ◌≡◌}
+use Rattle.std.proofs.Common.{eqb-true, ◌==◌}
 use Rattle.std.specs.Cmp.{unsigned_tied}
 use Rattle.std.specs.FinMap as finmap
 use Rattle.std.specs.FinMap.{get-insert, get-remove, nat_cmp-IsAntisymmetric, slice_cmp-IsAntisymmetric}
@@ -85,13 +85,13 @@ not_zero n some = go (n == 0) refl
     go true e = let none = eqb-true n 0 e in absurd (omega (arith, some, none))
     go false e = refl
 
+pub stored_next : (rank : RankNumber) (next : ℕ) → IsNextIno rank (record { 0 = next }) → rank_value next ≡ Some (little_bytes 8 next)
+stored_next rank next can = ap (λ (b : Bool). cond b None (Some (little_bytes 8 next))) (not_zero next (omega (arith, can.least)))
+
 module _ (rows : SessionRows) (stored : List Stored) (old new : List ℕ) (rank : RankNumber) (next : ℕ) (is : SpellsSessions rows stored old) (low : rank.0 < 16) (can : IsNextIno rank (record { 0 = next }))
     (long : length new ≡ 16) (got : (r : RankNumber) → r.0 < 16 → next_of new r ≡ cond (r.0 == rank.0) next (next_of old r)) where
-  stored_next : rank_value next ≡ Some (little_bytes 8 next)
-  stored_next = ap (λ (b : Bool). cond b None (Some (little_bytes 8 next))) (not_zero next (omega (arith, can.least)))
-
   next_by : (b : Bool) (n : ℕ) → cond b (Some (little_bytes 8 next)) (rank_value n) ≡ rank_value (cond b next n)
-  next_by true n = sym stored_next
+  next_by true n = sym (stored_next rank next can)
   next_by false n = refl
 
   ranged_by : (r : RankNumber) → r.0 < 16 → (b : Bool) → (r.0 == rank.0) ≡ b → IsStoredNext r (cond b next (next_of old r))

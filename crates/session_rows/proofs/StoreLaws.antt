@@ -1,5 +1,5 @@
 -- Edits that store what is kept of the changed clients, and next numbers.
-use Rattle.session_rows.proofs.Common.{Bool, List, None, Option, Some, [], ap, arith, cond, drop, false, length, little_bytes, ltb, refl, subst, suc, sym, take, true, zero, ℕ, ◌++◌, ◌+◌, ◌<◌, ◌^◌, ◌∙◌, ◌∷◌, ◌≡◌, ◌≤◌}
+use Rattle.session_rows.proofs.Common.{Bool, List, None, Option, Some, [], ap, arith, cond, false, length, little_bytes, ltb, refl, subst, suc, sym, take, true, zero, ℕ, ◌++◌, ◌+◌, ◌<◌, ◌^◌, ◌∙◌, ◌∷◌, ◌≡◌, ◌≤◌}
 use Rattle.std.proofs.Common.{eq-eqb, eqb-true, get_or, option_map, ◌==◌, ◌||◌}
 use Rattle.std.proofs.lemmas.Bool.{false≢true, ltb-false, ltb-true}
 use Rattle.std.proofs.lemmas.List.{take_all, take_more}
@@ -140,9 +140,9 @@ one_rank history table changed nexts i edits rank next edit are low at its key v
     let new = with_nexts (take (i + 1) nexts) before in
     let long : length new ≡ 16 = with_long (i + 1) nexts before (omega (arith, low)) (omega (arith, low, are.few, is.long)) ∙ is.long in
     let own : IsNextIno rank (record { 0 = next }) =
-        subst (λ (n : ℕ). IsNextIno rank (record { 0 = n })) (ap (λ (k : ℕ). get_or nexts k 0) at ∙ sym its) (are.ranged rank (omega (arith, low, at))) in
+    subst (λ (n : ℕ). IsNextIno rank (record { 0 = n })) (ap (λ (k : ℕ). get_or nexts k 0) at ∙ sym its) (are.ranged rank (omega (arith, low, at))) in
     let got : (r : RankNumber) → r.0 < 16 → next_of new r ≡ cond (r.0 == rank.0) next (next_of old r) = λ r few.
-        one_further i nexts before r.0 low (omega (arith, low, are.few, is.long)) ∙ (λ j. cond (r.0 == sym at j) (sym its j) (next_of old r)) in
+    one_further i nexts before r.0 low (omega (arith, low, are.few, is.long)) ∙ (λ j. cond (r.0 == sym at j) (sym its j) (next_of old r)) in
     let spelled = rank_set (edited edits rows) w.new old new rank next w.spelled (omega (arith, low, are.few, at)) own long got in
     record {
       new = w.new;

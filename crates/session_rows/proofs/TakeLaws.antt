@@ -1,5 +1,5 @@
 -- A client that is taken over with the replies of its row, one after the other.
-use Rattle.session_rows.proofs.Common.{Ascend, Bool, IsRow, List, None, Option, Reply, Row, Some, Told, [], ap, append-nil, append_assoc, arith, cond, false, next_from, refl, subst, sym, true, ℕ, ◌++◌, ◌+◌, ◌<◌, ◌^◌, ◌∙◌, ◌∷◌, ◌≡◌, ◌≤◌}
+use Rattle.session_rows.proofs.Common.{Ascend, Bool, IsRow, List, None, Option, Reply, Row, Some, Told, [], ap, append-nil, append_assoc, arith, cond, false, next_from, refl, subst, sym, true, ℕ, ◌++◌, ◌+◌, ◌<◌, ◌∙◌, ◌∷◌, ◌≡◌, ◌≤◌}
 use Rattle.std.proofs.Common.{eq-eqb, eqb-true, is_some, map, ◌==◌}
 use Rattle.std.proofs.lemmas.Bool.{false≢true}
 use Rattle.std.proofs.lemmas.List.{map-append}
@@ -7,7 +7,7 @@ use Rattle.std.specs.FinMap as finmap
 use Rattle.sessions.proofs.RestoredLaws.{kept_stored, restored_client, restored_reply}
 use Rattle.sessions.proofs.StoredLaws.{none_of, stored_with}
 use Rattle.sessions.specs.Restored.{IsRestored, TakesClient, TakesReply}
-use Rattle.sessions.specs.Stored.{Stored, mark_or_none, of_mark, reply_in, reply_or_none, reply_stored, stored_of, with_reply}
+use Rattle.sessions.specs.Stored.{Stored, mark_or_none, of_mark, reply_in, reply_or_none, stored_of, with_reply}
 use Rattle.sessions.specs.Table.{Table, kept_in, mark_in}
 use Rattle.session_rows.specs.Restoring.{MayTake, TakesRow, stored_from}
 

@@ -10,11 +10,10 @@ use Rattle.keeping.specs.Rows.{SessionRows, edited}
 use Rattle.sessions.specs.Restored.{IsStoredAnew, row_stored}
 use Rattle.sessions.specs.Stored.{Stored, stored_of}
 use Rattle.sessions.specs.Table.{Table}
-use Rattle.session_rows.specs.ClientRows.{IsNoRow, IsRow, Row, row_bytes}
+use Rattle.session_rows.specs.ClientRows.{IsRow, Row, row_bytes}
 use Rattle.session_rows.specs.Keys.{SpellsRowKey, client_bytes, rank_bytes}
-use Rattle.session_rows.specs.RankRows.{IsNextIno, ReadsRank}
+use Rattle.session_rows.specs.RankRows.{IsNextIno}
 use Rattle.session_rows.specs.declared.keys.Key.{Key}
-use Rattle.session_rows.specs.declared.keys.Key.TheVariants.{Client, Rank}
 use Rattle.session_rows.specs.declared.told.Told.{Told}
 
 -- ---- the rows of what is stored

@@ -1,15 +1,25 @@
 //! The laws of the formats. A law is its contract: its body does nothing.
-ghost use Rattle.std.specs.Prelude.{◌≡◌, ◌⊎◌, ◌^◌, ◌<◌, List, Result, ℕ};
+ghost use Rattle.std.specs.Prelude.{◌≡◌, ◌⊎◌, ◌^◌, ◌<◌, [], List, Result, replicate, ℕ};
 ghost use Rattle.std.specs.Cmp.Lexicographic.{slice_cmp};
+ghost use Rattle.std.specs.FinMap as map;
 ghost use Rattle.std.specs.Ordering.{nat_cmp};
 ghost use Rattle.dirfrag_codec.specs.Grammar.{HasOneMeaning, HasOneSpelling};
+ghost use Rattle.keeping.specs.Rows.{SessionRows};
+ghost use Rattle.mds_types.specs.declared.entries.Entry.{Entry as Applied};
 ghost use Rattle.mds_types.specs.declared.ids.Ino.{Ino};
 ghost use Rattle.mds_types.specs.declared.ids.Rank.{Rank};
+ghost use Rattle.sessions.specs.Restored.{IsStoredOf};
+ghost use Rattle.sessions.specs.Stored.{Stored, stored_of};
 ghost use Rattle.session_rows.specs.declared.faults.RowFault.{RowFault};
 ghost use Rattle.session_rows.specs.declared.faults.RowFault.TheVariants.{NoMemory};
+ghost use Rattle.session_rows.specs.declared.restoring.Restored.{Restored};
+ghost use Rattle.session_rows.specs.declared.rows_faults.RowsFault.{RowsFault};
+ghost use Rattle.session_rows.specs.declared.rows_faults.RowsFault.TheVariants.{NoMemory as OutOfMemory};
 ghost use Rattle.session_rows.specs.ClientRows.{IsNoRow, ReadsRow, Row, SpellsRow};
 ghost use Rattle.session_rows.specs.Keys.{SpellsRowKey, client_bytes};
 ghost use Rattle.session_rows.specs.RankRows.{ReadsRank, SpellsRank};
+ghost use Rattle.session_rows.specs.Restoring.{IsReadOf, RefusesRows};
+ghost use Rattle.session_rows.specs.Sessions.{SpellsSessions};
 
 /// A key names at most one thing, and what it names has one key. The keys of clients are in the order of their numbers.
 pub fn keys_are_spelled_once()
@@ -37,4 +47,20 @@ pub fn rank_rows_are_spelled_once()
     ensures spelling { (rank : Rank) → HasOneSpelling (SpellsRank rank) }
     ensures again { (rank : Rank) (bytes : List ℕ) (next : Ino) (answer : Result Ino RowFault)
         → SpellsRank rank bytes next → ReadsRank rank bytes answer → answer ≡ Ok next }
+{}
+
+/// Rows say one thing: what is stored of each client, and the next number of each rank. No rows say that nothing is
+/// stored. What rows say is restored, unless memory is wanting: what was stored of a history is what the history keeps
+/// of each client.
+pub fn sessions_are_spelled_once()
+    ensures content { (rows : SessionRows) (a b : List Stored) (m n : List ℕ) → SpellsSessions rows a m
+        → SpellsSessions rows b n → (client : ℕ) → stored_of a client ≡ stored_of b client }
+    ensures nexts { (rows : SessionRows) (a b : List Stored) (m n : List ℕ) → SpellsSessions rows a m
+        → SpellsSessions rows b n → m ≡ n }
+    ensures empty { SpellsSessions map.empty [] (replicate 16 0) }
+    ensures again { (rows : SessionRows) (stored : List Stored) (nexts : List ℕ) (fault : RowsFault)
+        → SpellsSessions rows stored nexts → RefusesRows rows fault → fault ≡ OutOfMemory }
+    ensures history { (history : List Applied) (rows : SessionRows) (stored : List Stored) (nexts : List ℕ)
+        (read : Restored) → SpellsSessions rows stored nexts → IsStoredOf history stored → (r : IsReadOf rows read)
+        → IsStoredOf history r.stored }
 {}

@@ -28,5 +28,5 @@ returns-in-Err-clause-uses g c =
 pub returns-in_err-pin_all-clause-uses : goal.returns-in_err-pin_all-clause-uses
 returns-in_err-pin_all-clause-uses g c =
     let f = tree_state c.args.tree.now.tree in
-    waits_told f (held_roots c.args.tree.now) c.args.tree.now.tree.caches c.changes.new.frags.tree.caches (result_err c.from_residual.result) (first_waiting c.args.client c.args.tid c.args.waiting.now.inboxes)
+    waits_told f (held_roots c.args.tree.now) c.args.tree.now.tree.caches c.changes.new.frags.tree.caches (result_err c.from_residual-in_err-pin_all.result) (first_waiting c.args.client c.args.tid c.args.waiting.now.inboxes)
     (subst (UsesWaiting f (held_roots c.args.tree.now) c.args.tree.now.tree.caches c.changes.new.frags.tree.caches None) c.in-Some.ensures c.in_ok-changed.ensures.kept.follows.reads)

@@ -1,5 +1,5 @@
 -- A book over a store as it is found stands behind the tree that it shows, with no past.
-use Rattle.cluster_core.proofs.Common.{AreSetAside, MountsCore, Some, StandsBehind, Table, [], aside_none, ap, fresh, refl, subst, sym}
+use Rattle.cluster_core.proofs.Common.{AreSetAside, Some, Table, [], aside_none, ap, fresh, refl, subst, sym}
 use Rattle.cluster_core.proofs.MountedBook.{mounts_none_kept}
 use Rattle.cluster_core.proofs.SettledLaws.{none_known}
 use Rattle.cluster_core.proofs.mounting.mount.Goals as goal

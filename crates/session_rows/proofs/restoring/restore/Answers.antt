@@ -1,5 +1,5 @@
 -- One row more is read.
-use Rattle.session_rows.proofs.Common.{IsErrAnd, ◌∙◌, ◌∷◌, ◌≡◌, rules}
+use Rattle.session_rows.proofs.Common.{IsErrAnd, ◌∙◌, ◌≡◌, rules}
 use Rattle.session_rows.proofs.RestoreLaws.{next_may, pair_of, read_first, read_one, refused_all, refused_one}
 use Rattle.session_rows.proofs.restoring.restore.Goals as goal
 

@@ -1,5 +1,5 @@
 -- A beginning of the history is forgotten: from whichever opening tree and past the book went on, it goes on.
-use Rattle.cluster_core.proofs.Common.{KeptState, StandsBehind, append-nil, drop, forget_all, subst, sym, take, with_sessions, ◌++◌}
+use Rattle.cluster_core.proofs.Common.{StandsBehind, append-nil, forget_all, subst, sym, take, ◌++◌}
 use Rattle.cluster_core.proofs.Forgotten.{book_forgets, settled_with, still_opened}
 use Rattle.cluster_core.proofs.books.Book.forget.Goals as goal
 

@@ -1,5 +1,5 @@
 -- A step leaves a sound book, and what is known of its ranks; and it is one of one thread.
-use Rattle.cluster_core.proofs.Common.{BookState, Entry, StandsBehind, InOrder, KeepsSettled, KeptState, List, Steps, UsesStep, ap, length, length-append, places_of, receipt_of, refl, subst, sym, whole_of, ℕ, ◌++◌, ◌+◌, ◌∙◌, ◌≡◌}
+use Rattle.cluster_core.proofs.Common.{BookState, Entry, StandsBehind, InOrder, KeepsSettled, KeptState, List, Steps, UsesStep, ap, length, length-append, places_of, receipt_of, refl, subst, sym, whole_of, ℕ, ◌++◌, ◌∙◌, ◌≡◌}
 use Rattle.cluster_core.proofs.Forgotten.{keeps_whole, places_behind}
 use Rattle.cluster_core.proofs.LimitStays.{limit_stays}
 use Rattle.cluster_core.proofs.OneThreadLaws.{shown_as_one, shows_after}

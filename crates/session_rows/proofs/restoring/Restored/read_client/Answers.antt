@@ -1,6 +1,5 @@
 -- The client that is taken over is the row's.
 use Rattle.session_rows.proofs.Common.{arith}
-use Rattle.sessions.specs.Rooms.{table}
 use Rattle.session_rows.proofs.ReadLaws.{client_read, ok_of}
 use Rattle.session_rows.proofs.restoring.Restored.read_client.Goals as goal
 

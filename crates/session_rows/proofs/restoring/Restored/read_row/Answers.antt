@@ -1,5 +1,5 @@
 -- The key is that of a client or of a rank.
-use Rattle.session_rows.proofs.Common.{List, ap, ℕ, ◌∙◌, ◌≡◌}
+use Rattle.session_rows.proofs.Common.{ap, ◌∙◌, ◌≡◌}
 use Rattle.session_rows.specs.Keys.{client_bytes, key_bytes, rank_bytes}
 use Rattle.session_rows.proofs.restoring.Restored.read_row.Goals as goal
 
