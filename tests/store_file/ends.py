@@ -1,6 +1,7 @@
 """The end of a run: of its input, of a line that is no command, of one under an export, and by SIGTERM."""
 import os
 import signal
+import sqlite3
 import subprocess
 
 from formats import wants
@@ -77,6 +78,40 @@ def signals(program, folder):
         wants(names(path, log=False) == [b'a'], f'behind signal {number} the next run leaves {names(path)}')
 
 
+def numbers(program, folder):
+    """Operations alone go on with the numbers behind those of earlier runs: each is applied. After a kill they go on behind the last
+    flush. The last number of 64 bits is never used: a run that is left without one ends in words."""
+    path = os.path.join(folder, 'numbered')
+
+    def told(first, printed):
+        """The answers of replies that have numbers from this one on."""
+        words = [line.split(' ', 5) for line in printed]
+        wants([it[:3] + it[4:5] for it in words] == [['reply', '0', str(first + k), 'new'] for k in range(len(words))], f'from {first} on: {printed}')
+        return [it[5].split()[:2] for it in words]
+
+    wants(told(1, went(program, path, ['mkdir 1 d 755', 'create 1 a 644'])) == [['entry', '10000000000'], ['entry', '10000000001']], 'the first run')
+    wants(told(3, went(program, path, ['mkdir 1 d 755', 'unlink 1 a'])) == [['errno', '17'], ['done']], 'the second run')
+    wants(told(5, went(program, path, ['lookup 1 a', 'lookup 1 d'], '--ask')) == [['errno', '2'], ['entry', '10000000000']], 'a run with --ask')
+    run = Served(program, path)
+    told(7, run.ask(['create 1 b 644']))
+    run.ask(['flush'])
+    told(8, run.ask(['create 1 c 644']))
+    run.process.kill()
+    run.close()
+    wants([it[0] for it in told(8, went(program, path, ['lookup 1 b', 'lookup 1 c']))] == ['entry', 'errno'], 'the run behind a kill')
+    last = os.path.join(folder, 'last')
+    base, changed = sqlite3.connect(path), sqlite3.connect(last)
+    changed.executescript('\n'.join(base.iterdump()))
+    changed.execute('UPDATE session_map SET value = ? WHERE key = ?', ((2**64 - 3).to_bytes(8, 'little'), bytes(8)))
+    changed.commit()
+    base.close()
+    changed.close()
+    for line in (2, 1):
+        status, printed, why = ran(program, last, ['lookup 1 d'] * 3)
+        wants((status, len(printed), why) == (1, line - 1, f'line {line}: read fault\n'), f'the last numbers: {status}, {printed}, {why}')
+        told(2**64 - 2, printed)
+
+
 def serve(program, folder):
     """`serve` leaves the tree of its clients in an empty FILE, and changes none that has a tree, or is refused."""
     path, words = os.path.join(folder, 'served'), ['--ranks', '2', '--workers', '2', '--clients', '2', '--creates', '5']
@@ -85,7 +120,7 @@ def serve(program, folder):
         done = subprocess.run([program, 'serve', *words, '--store', path], capture_output=True, text=True)
         came = done.returncode, done.stdout.splitlines(), done.stderr
         wants(came == ((0, ['served 12', 'audit ok', *paths], '') if run == 0 else
-                       (1, [], f'cephmeta: {path}: has a tree, and serve begins with an empty one\n')), f'run {run} of serve: {came}')
+                       (1, [], f'cephmeta: {path}: has a tree or sessions, and serve begins with an empty tree and none\n')), f'run {run} of serve: {came}')
         wants(log_of(path) is None, f'run {run} of serve leaves a log')
         tree = tree_of(rows_of(path, log=False))
         folders = {inode.ino: name.decode() for (above, name), inode in tree.items() if inode.kind == 'dir'}

@@ -10,7 +10,7 @@ import sys
 import tempfile
 
 from formats import wants
-from served import Served, ran, went
+from served import Served, answer_of, ran, went
 from stores import copied, log_of, rows_of, tree_of, written
 
 HERE = os.path.dirname(os.path.abspath(__file__))
@@ -20,8 +20,9 @@ SPECIAL = 'is no regular file of one name'
 HELD = 'is held by another process'
 TREE = ['mkdir 1 d 755', 'create 1 a 644 uid 3', 'create 10000000000 b 600', 'setattr 1 a size 4']
 LOOK = ['readdir 1 - 10', 'readdir 10000000000 - 10', 'lookup 1 a']
-SHOWN = ['reply 0 1 0 new entries 2 end a:10000000001 d:10000000000', 'reply 0 2 1 new entries 1 end b:10000000002',
-         'reply 0 3 2 new entry 10000000001 file 644 4 0 owner 3 0']
+# what LOOK answers
+SHOWN = ['entries 2 end a:10000000001 d:10000000000', 'entries 1 end b:10000000002', 'entry 10000000001 file 644 4 0 owner 3 0']
+EMPTY = ['entries 0 end', 'errno 116', 'errno 2']
 READER = """
 import sqlite3, sys
 base = sqlite3.connect(sys.argv[1], isolation_level=None)
@@ -30,7 +31,6 @@ base.execute('SELECT * FROM omap').fetchall()
 print('reads', flush=True)
 sys.stdin.read()
 """
-EMPTY = ['reply 0 1 0 new entries 0 end', 'reply 0 2 1 new errno 116', 'reply 0 3 2 new errno 2']
 
 
 class Place:
@@ -61,10 +61,10 @@ class Place:
         base.close()
         return self.at(name)
 
-    def shows(self, path, printed):
-        """A run over the file prints this, and leaves no log."""
-        lines = went(self.program, path, LOOK)
-        wants(lines == printed, f'{os.path.basename(path)} prints {lines}')
+    def shows(self, path, answers):
+        """A run over the file answers this, and leaves no log."""
+        came = [answer_of(line) for line in went(self.program, path, LOOK)]
+        wants(came == answers, f'{os.path.basename(path)} answers {came}')
         wants(log_of(path) is None, f'a log is left beside {os.path.basename(path)}')
 
     def refuses(self, path, words, by=()):
@@ -119,10 +119,10 @@ def bytes_of_files(it):
         it.refuses(it.holds('short', b'A text that is short. '.ljust(length, b'-')[:length]), 'is no database')
     whole = open(it.good, 'rb').read()
     page = int.from_bytes(whole[16:18], 'big')
-    wants(len(whole) == 3 * page, f'the small store has {len(whole)} bytes')
+    wants(len(whole) == 4 * page, f'the small store has {len(whole)} bytes')
     for length in (1, 15, 16, 99):
         it.refuses(it.holds('cut', whole[:length]), CUT)
-    for length in (100, 511, 512, page - 1, page, page + 512, 2 * page, 3 * page - 1):
+    for length in (100, 511, 512, page - 1, page, page + 512, 2 * page, 3 * page, 4 * page - 1):
         it.refuses(it.holds('cut', whole[:length]), DAMAGED)
     # a file that lost all of its bytes, and has its log yet
     run = Served(it.program, it.copy('logged'))
@@ -260,7 +260,7 @@ def strangers(it):
 def holders(it):
     """A file that another process has open."""
     run = Served(it.program, it.copy('held'))
-    wants(run.say('lookup 1 a') == 'reply 0 1 0 new entry 10000000001 file 644 4 0 owner 3 0', 'a look-up')
+    wants(answer_of(run.say('lookup 1 a')) == SHOWN[2], 'a look-up')
     it.refuses(it.at('held'), HELD)
     run.say('create 1 more 644')
     run.say('flush')

@@ -9,7 +9,7 @@ pub use Rattle.admin_cli.specs.Scripts.{BreaksOff, EndsScript, IsFormatted, Lack
 pub use Rattle.admin_cli.specs.StepLines.{StepsLine, shown_line}
 pub use Rattle.admin_cli.specs.StoreLines.{BeginsJob, CommitsLine, CopiesNone, EndsLine, LacksForCommit}
 pub use Rattle.admin_cli.specs.Waiting.{Breaks, IsEmpty, LeavesWaiting, MayFlush, PrintsAny, PrintsCame, PrintsOf, PrintsOwn, RunsWaiting, line_at}
-pub use Rattle.admin_cli.specs.Admin.{Admin}
+pub use Rattle.admin_cli.specs.Admin.{Admin, begun}
 pub use Rattle.admin_cli.specs.declared.faults.FaultKind.{FaultKind}
 pub use Rattle.admin_cli.specs.declared.faults.FaultKind.TheVariants.{NotCommand, OutOfMemory, ReadFault, TooLong, WriteFault}
 pub use Rattle.admin_cli.specs.declared.faults.ScriptFault.{ScriptFault}
@@ -17,7 +17,6 @@ pub use Rattle.admin_cli.specs.declared.waiting.Mark.{Mark}
 pub use Rattle.admin_cli.specs.declared.waiting.Waiting.{Waiting}
 pub use Rattle.cluster_core.specs.Proposal.{Proposes}
 pub use Rattle.cluster_core.specs.Opening.{IsLegalFrom, Opening, after_from, fresh}
-pub use Rattle.cluster_core.specs.SentBytes.{none_sent}
 pub use Rattle.cluster_core.specs.Sound.{IsSoundKept, StandsBehind}
 pub use Rattle.cluster_core.specs.State.{BookState, KeptState, places_of, whole_of}
 pub use Rattle.cluster_core.specs.declared.events.Answer.{Answer}

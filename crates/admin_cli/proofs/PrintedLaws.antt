@@ -1,5 +1,5 @@
 -- What a script prints is what one thread tells.
-use Rattle.admin_cli.proofs.Common.{Admin, Answer, Appends, Command, EndsScript, Err, Event, Executes, FaultKind, Fragment, IfOk, IfSome, Ino, IsFormatted, IsLegalFrom, Keeps, List, MakesStep, None, Ok, Opening, Option, OutputLine, Rank, Refusal, Result, RunsInput, RunsLines, RunsOrNot, Some, StopsBefore, [], ap, append-nil, append_assoc, arith, fresh, inl, inr, length, refl, shown_line, subst, sym, text_of, ℕ, ◌++◌, ◌+◌, ◌∙◌, ◌∷◌, ◌≡◌}
+use Rattle.admin_cli.proofs.Common.{Admin, Answer, Appends, Command, EndsScript, Err, Event, Executes, FaultKind, Fragment, IfOk, IfSome, Ino, IsFormatted, IsLegalFrom, Keeps, List, MakesStep, None, Ok, Opening, Option, OutputLine, Rank, Refusal, Result, RunsInput, RunsLines, RunsOrNot, Some, StopsBefore, [], ap, append-nil, append_assoc, arith, begun, fresh, inl, inr, length, refl, shown_line, subst, sym, text_of, ℕ, ◌++◌, ◌+◌, ◌∙◌, ◌∷◌, ◌≡◌}
 use Rattle.std.specs.Prelude.{◌⊎◌, filter, flat_map, map, replicate, suc, take, zero}
 use Rattle.std.specs.List.{AllByRecursion}
 use Rattle.std.specs.FinMap as finite
@@ -11,8 +11,8 @@ use Rattle.mds_types.specs.declared.operations.Op.{Op}
 use Rattle.mds_types.specs.declared.requests.Request.{Request}
 use Rattle.std.specs.Prelude.{Contains}
 use Rattle.cluster_core.specs.Flush.{Flushes, KeepsBook}
+use Rattle.cluster_core.specs.KeptSessions.{with_stored}
 use Rattle.cluster_core.specs.OneThread.{IsAskedFor, IsSent, arrival, receipt_of, waiting_in}
-use Rattle.cluster_core.specs.SentBytes.{none_sent}
 use Rattle.cluster_core.specs.Sound.{IsSoundKept, StandsBehind}
 use Rattle.cluster_core.specs.State.{KeptState, State, whole_of}
 use Rattle.cluster_core.specs.declared.events.Answer.TheVariants as answer
@@ -21,8 +21,10 @@ use Rattle.cluster_core.specs.declared.receipts.Receipt.{Receipt}
 use Rattle.cluster_core.proofs.ListLaws.{all_append, all_back, all_front, all_weaker, each_left, each_right}
 use Rattle.cluster_core.proofs.NoReplyLaws.{TellsNone}
 use Rattle.cluster_core.proofs.OneThreadLaws.{as_one}
+use Rattle.cluster_core.proofs.StayLaws.{stored_behind}
 use Rattle.admin_cli.proofs.ServedKept.{Served, in_places, in_whole, served_forgot, served_none, served_on, served_one, served_same, step_tells_none}
 use Rattle.cluster_core.proofs.SentLaws.{AreAmong, nested}
+use Rattle.sessions.specs.Table.{mark_in}
 use Rattle.script_text.specs.Script.{line_of}
 use Rattle.script_text.specs.Input.{lines_of}
 use Rattle.script_text.specs.declared.commands.Command.TheVariants as command
@@ -456,6 +458,25 @@ saved_book book new (Ok done) printed (inl (_, is)) = inl is
 saved_book book new (Ok done) printed (inr (_, _, is)) = inr is
 saved_book book new (Err refusal) printed (_, is) = inr is
 
+saves : (sent : List Request) (old new : Admin) (printed : OutputLine) → IsReady sent old → SavesLine old new printed → DidLine sent old new printed
+saves sent old new printed ready h = go (saved_book h.book new.book h.result printed h.shown)
+  where
+    none : receipt_in printed ≡ []
+    none = saved_silent h.book new.book h.result printed h.shown
+
+    first : Served old.book h.book sent []
+    first = flushed sent old.book h.book h.result ready.1 h.flushed
+
+    stored : Served h.book (with_stored h.book) sent []
+    stored = served_none sent h.book (with_stored h.book) (λ opening past given. stored_behind opening past h.book given) refl refl refl first.waits
+
+    sound : IsSoundKept (with_stored h.book)
+    sound = let known = h.flushed.sound in (known.0, known.1, stored_behind known.0 known.1 h.book known.2)
+
+    go : (new.book ≡ with_stored h.book) ⊎ (new.book ≡ h.book) → DidLine sent old new printed
+    go (inl is) = as_told sent old new printed [] none (subst IsSoundKept (sym is) sound) (subst (λ (b : KeptState). Served old.book b sent []) (sym is) (served_on sent old.book h.book (with_stored h.book) [] [] first stored))
+    go (inr is) = as_told sent old new printed [] none (subst IsSoundKept (sym is) h.flushed.sound) (subst (λ (b : KeptState). Served old.book b sent []) (sym is) first)
+
 either_way : {P : Type 0} (b : Bool) (A B : Type 0) → (A → P) → (B → P) → MatchBool b A B → P
 either_way true A B f g h = f h
 either_way false A B f g h = g h
@@ -612,18 +633,18 @@ broken_of Does old done left (Ok all) front h = inl h.1
 broken_of Does old done left (Err stopped) front h = broken_at Does old left stopped.line stopped.kind front (Err stopped) refl h.1
 
 -- a script that ran over a book
-prints_run : (Does : Doing) → AreAsOne Does → (known before after : Option (List ℕ)) (result : Result (Unit {0}) ScriptFault) (admin : Admin) → IsSoundKept admin.book → admin.operations ≡ 0 → RunsInput Does admin known before after result
+prints_run : (Does : Doing) → AreAsOne Does → (known before after : Option (List ℕ)) (result : Result (Unit {0}) ScriptFault) (admin : Admin) → IsSoundKept admin.book → RunsInput Does admin known before after result
     → (opening : Opening) (past : List Entry) → StandsBehind opening past admin.book
-    → PrintsOneThread admin.book.core.state.tree.limit opening (past ++ admin.book.history) (waiting_in admin.book.core.state.inboxes) known before after result
-prints_run Does one_of known before after result admin sound none input opening past given =
+    → PrintsOneThread admin.book.core.state.tree.limit opening (past ++ admin.book.history) (waiting_in admin.book.core.state.inboxes) admin.operations known before after result
+prints_run Does one_of known before after result admin sound input opening past given =
     let script = input.script in
     let start : KeptState = admin.book in
     let waiting = waiting_in start.core.state.inboxes in
-    let made = requests_of 0 input.lines in
+    let made = requests_of admin.operations input.lines in
     let sent = waiting ++ made in
     let among : AreAmong sent start.core.state.inboxes = nested sent start.core.state.inboxes (each_left waiting made) in
-    let all : AllByRecursion (Contains sent) (requests_of 0 (script.done ++ script.left)) = subst (λ (ls : List (List ℕ)). AllByRecursion (Contains sent) (requests_of 0 ls)) script.whole (each_right waiting made) in
-    let asked : AllByRecursion (Contains sent) (requests_of admin.operations script.done) = subst (λ (n : ℕ). AllByRecursion (Contains sent) (requests_of n script.done)) (sym none) (requests_front sent 0 script.done script.left all) in
+    let all : AllByRecursion (Contains sent) (requests_of admin.operations (script.done ++ script.left)) = subst (λ (ls : List (List ℕ)). AllByRecursion (Contains sent) (requests_of admin.operations ls)) script.whole (each_right waiting made) in
+    let asked = requests_front sent admin.operations script.done script.left all in
     let did = did_lines Does one_of sent admin script.new script.done script.text (sound, among) asked script.runs in
     let to = did.served.from opening past given in
     let its = as_one (whole_of opening past start) (whole_of opening to.forgotten script.new.book) sent did.told to.behind.behind.sound to.served in
@@ -657,9 +678,9 @@ kept_appends None after h = tt
 kept_appends (Some xs) None h = absurd h
 kept_appends (Some xs) (Some ys) h = h ∙ sym (append-nil xs)
 
-prints_none : (limit : ℕ) (opening : Opening) (past : List Entry) (waited : List Request) (known before after : Option (List ℕ)) (result : Result (Unit {0}) ScriptFault) → IsLegalFrom limit opening past → Keeps before after
-    → PrintsOneThread limit opening past waited known before after result
-prints_none limit opening past waited known before after result legal same = record {
+prints_none : (limit : ℕ) (opening : Opening) (past : List Entry) (waited : List Request) (marked : ℕ) (known before after : Option (List ℕ)) (result : Result (Unit {0}) ScriptFault) → IsLegalFrom limit opening past → Keeps before after
+    → PrintsOneThread limit opening past waited marked known before after result
+prints_none limit opening past waited marked known before after result legal same = record {
   lines = lines_in known;
   read = lines_read known;
   printed = [];
@@ -687,17 +708,17 @@ keeps_itself (Some xs) = refl
 nothing_legal : (limit : ℕ) → IsLegalFrom limit (fresh finite.empty) []
 nothing_legal limit = record { begins = omega arith; next = λ k e from below. absurd (omega (arith, below)) }
 
-pub prints_nothing : (limit : ℕ) (known before : Option (List ℕ)) (result : Result (Unit {0}) ScriptFault) → PrintsOneThread limit (fresh finite.empty) [] [] known before before result
-prints_nothing limit known before result = prints_none limit (fresh finite.empty) [] [] known before before result (nothing_legal limit) (keeps_itself before)
+pub prints_nothing : (limit : ℕ) (known before : Option (List ℕ)) (result : Result (Unit {0}) ScriptFault) → PrintsOneThread limit (fresh finite.empty) [] [] 0 known before before result
+prints_nothing limit known before result = prints_none limit (fresh finite.empty) [] [] 0 known before before result (nothing_legal limit) (keeps_itself before)
 
 -- what a script prints over a book is what one thread tells
 pub prints_over : (Does : Doing) → AreAsOne Does → (book : KeptState) → IsSoundKept book → (known before after : Option (List ℕ)) (result : Result (Unit {0}) ScriptFault)
-    → RunsOrNot Does (record { book = book; operations = 0; jobs = finite.empty; sent = none_sent }) known before after result → (opening : Opening) (past : List Entry) → StandsBehind opening past book
-    → PrintsOneThread book.core.state.tree.limit opening (past ++ book.history) (waiting_in book.core.state.inboxes) known before after result
+    → RunsOrNot Does (begun book) known before after result → (opening : Opening) (past : List Entry) → StandsBehind opening past book
+    → PrintsOneThread book.core.state.tree.limit opening (past ++ book.history) (waiting_in book.core.state.inboxes) (mark_in book.core.state.sessions 0) known before after result
 prints_over Does one_of book sound known before after result (inl runs) opening past given =
-    prints_run Does one_of known before after result (record { book = book; operations = 0; jobs = finite.empty; sent = none_sent }) sound refl runs opening past given
+    prints_run Does one_of known before after result (begun book) sound runs opening past given
 prints_over Does one_of book sound known before after result (inr never) opening past given =
-    prints_none book.core.state.tree.limit opening (past ++ book.history) (waiting_in book.core.state.inboxes) known before after result given.behind.sound.legal never.same
+    prints_none book.core.state.tree.limit opening (past ++ book.history) (waiting_in book.core.state.inboxes) (mark_in book.core.state.sessions 0) known before after result given.behind.sound.legal never.same
 
 -- ---- the book that a script leaves
 
@@ -826,15 +847,15 @@ printed_all sent old new text left d before after (Err fault) all = tt
 
 -- a script over a book leaves what one thread leaves
 pub leaves_over : (Does : Doing) → AreAsOne Does → (old : KeptState) → IsSoundKept old → (new : Admin) (known before after : Option (List ℕ)) (result : Result (Unit {0}) ScriptFault)
-    → LeavesAdmin Does (record { book = old; operations = 0; jobs = finite.empty; sent = none_sent }) new known before after result
+    → LeavesAdmin Does (begun old) new known before after result
     → (opening : Opening) (past : List Entry) → StandsBehind opening past old → LeavesOneThread opening past old new.book known before after result
 leaves_over Does one_of old sound new known before after result h opening past given =
-    let admin : Admin = record { book = old; operations = 0; jobs = finite.empty; sent = none_sent } in
+    let admin : Admin = begun old in
     let waiting = waiting_in old.core.state.inboxes in
-    let made = requests_of 0 h.lines in
+    let made = requests_of admin.operations h.lines in
     let sent = waiting ++ made in
     let among : AreAmong sent old.core.state.inboxes = nested sent old.core.state.inboxes (each_left waiting made) in
-    let all : AllByRecursion (Contains sent) (requests_of 0 (h.done ++ h.left)) = subst (λ (ls : List (List ℕ)). AllByRecursion (Contains sent) (requests_of 0 ls)) h.whole (each_right waiting made) in
+    let all : AllByRecursion (Contains sent) (requests_of admin.operations (h.done ++ h.left)) = subst (λ (ls : List (List ℕ)). AllByRecursion (Contains sent) (requests_of admin.operations ls)) h.whole (each_right waiting made) in
     let to = did_to Does one_of sent admin h.reached new h.done h.text (sound, among) h.runs h.left all h.last in
     let did = to.did in
     let end = did.served.from opening past given in
@@ -857,11 +878,13 @@ none_wait (suc ranks) = none_wait ranks
 
 -- so it is over a new book
 pub prints_new : (ranks cache limit : ℕ) (known before after : Option (List ℕ)) (result : Result (Unit {0}) ScriptFault) (book : KeptState) → IsFormatted ranks cache limit book
-    → ((opening : Opening) (past : List Entry) → StandsBehind opening past book → PrintsOneThread book.core.state.tree.limit opening (past ++ book.history) (waiting_in book.core.state.inboxes) known before after result)
-    → PrintsOneThread limit (fresh finite.empty) [] [] known before after result
+    → ((opening : Opening) (past : List Entry) → StandsBehind opening past book → PrintsOneThread book.core.state.tree.limit opening (past ++ book.history) (waiting_in book.core.state.inboxes) (mark_in book.core.state.sessions 0) known before after result)
+    → PrintsOneThread limit (fresh finite.empty) [] [] 0 known before after result
 prints_new ranks cache limit known before after result book formatted h =
     let limited : book.core.state.tree.limit ≡ limit = ap (λ (s : State). s.tree.limit) formatted.state in
     let waits : waiting_in book.core.state.inboxes ≡ [] = ap (λ (s : State). waiting_in s.inboxes) formatted.state ∙ none_wait ranks in
-    subst (λ (n : ℕ). PrintsOneThread n (fresh finite.empty) [] [] known before after result) limited
-    (subst (λ (es : List Entry). PrintsOneThread book.core.state.tree.limit (fresh finite.empty) es [] known before after result) formatted.history
-    (subst (λ (ws : List Request). PrintsOneThread book.core.state.tree.limit (fresh finite.empty) book.history ws known before after result) waits (h (fresh finite.empty) [] formatted.goes_on)))
+    let unknown : mark_in book.core.state.sessions 0 ≡ 0 = ap (λ (s : State). mark_in s.sessions 0) formatted.state in
+    subst (λ (n : ℕ). PrintsOneThread n (fresh finite.empty) [] [] 0 known before after result) limited
+    (subst (λ (es : List Entry). PrintsOneThread book.core.state.tree.limit (fresh finite.empty) es [] 0 known before after result) formatted.history
+    (subst (λ (ws : List Request). PrintsOneThread book.core.state.tree.limit (fresh finite.empty) book.history ws 0 known before after result) waits
+    (subst (λ (n : ℕ). PrintsOneThread book.core.state.tree.limit (fresh finite.empty) book.history (waiting_in book.core.state.inboxes) n known before after result) unknown (h (fresh finite.empty) [] formatted.goes_on))))

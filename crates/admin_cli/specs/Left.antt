@@ -4,14 +4,13 @@ use Rattle.std.specs.Io.KnownBytes.{Appends}
 use Rattle.cluster_core.specs.declared.receipts.Receipt.{Receipt}
 use Rattle.cluster_core.specs.OneThread.{InOrder, IsOneThread, waiting_in}
 use Rattle.cluster_core.specs.Runs.{GoesOnFrom}
-use Rattle.cluster_core.specs.SentBytes.{none_sent}
 use Rattle.cluster_core.specs.Sound.{StandsBehind}
 use Rattle.cluster_core.specs.State.{KeptState, places_of}
 use Rattle.mds_types.specs.declared.entries.Entry.{Entry}
 use Rattle.cluster_core.specs.Opening.{Opening}
-use Rattle.std.specs.FinMap as finite
+use Rattle.sessions.specs.Table.{mark_in}
 use Rattle.script_text.specs.Input.{lines_of}
-use Rattle.admin_cli.specs.Admin.{Admin}
+use Rattle.admin_cli.specs.Admin.{Admin, begun}
 use Rattle.admin_cli.specs.declared.faults.ScriptFault.{ScriptFault}
 use Rattle.admin_cli.specs.Printed.{ended_line, is_reply, receipt_line, requests_of}
 use Rattle.admin_cli.specs.Scripts.{Doing, LacksMemory, OfFirst, RunsLines}
@@ -38,7 +37,7 @@ pub record LeavesAdmin (Does : Doing) (old new : Admin) (known before after : Op
 pub record LeavesBook (Does : Doing) (old new : KeptState) (known before after : Option (List ℕ))
     (result : Result (Unit {0}) ScriptFault) : Type 0 where
   pub admin : Admin
-  pub leaves : LeavesAdmin Does (record { book = old; operations = 0; jobs = finite.empty; sent = none_sent }) admin known before after result
+  pub leaves : LeavesAdmin Does (begun old) admin known before after result
   pub book_is : new ≡ admin.book
 
 -- ---- in words of one plain tree served by one thread
@@ -60,7 +59,7 @@ pub record LeavesOneThread (opening : Opening) (past : List Entry) (old new : Ke
   pub forgotten : List Entry
   pub behind : StandsBehind opening forgotten new
   pub one : IsOneThread old.core.state.tree.limit opening (past ++ old.history) (forgotten ++ new.history)
-      (waiting_in old.core.state.inboxes ++ requests_of 0 lines) told
+      (waiting_in old.core.state.inboxes ++ requests_of (mark_in old.core.state.sessions 0) lines) told
   pub in_order : InOrder (places_of old) told (places_of new)
   pub same_limit : new.core.state.tree.limit ≡ old.core.state.tree.limit
   pub printed : IfOk result (λ ended. PrintsReplies told before after)

@@ -8,6 +8,7 @@ use Rattle.mds_types.specs.declared.operations.Op.{Op}
 use Rattle.mds_types.specs.declared.refusals.Refusal.{Refusal}
 use Rattle.mds_types.specs.declared.refusals.Refusal.TheVariants.{InboxFull}
 use Rattle.mds_types.specs.declared.requests.Request.{Request as Asked}
+use Rattle.cluster_core.specs.KeptSessions.{with_stored}
 use Rattle.cluster_core.specs.Opening.{Opening}
 use Rattle.inboxes.specs.Inboxes.{waiting_in_all}
 use Rattle.cluster_core.specs.OneThread.{InOrder, IsOneThread}

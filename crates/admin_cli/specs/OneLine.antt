@@ -1,5 +1,5 @@
 -- One line of a script, from its bytes to the text written for it.
-use Rattle.std.specs.Prelude.{◌≡◌, ◌⊎◌, ℕ, ◌-◌, ◌^◌, Bool, true, List, [], Option, Some, None, IfErr, Result, Ok, Err}
+use Rattle.std.specs.Prelude.{◌≡◌, ◌⊎◌, ℕ, ◌+◌, ◌-◌, ◌^◌, ◌≤◌, Bool, true, List, [], Option, Some, None, IfErr, Result, Ok, Err}
 use Rattle.std.specs.Io.KnownBytes.{Appends, Keeps}
 use Rattle.script_text.specs.declared.lines.Line.{Line}
 use Rattle.script_text.specs.declared.lines.Line.TheVariants as line
@@ -36,10 +36,11 @@ DoesBytes Does old new bytes (Ok (Some printed)) = RunsLine Does old new bytes (
 DoesBytes Does old new bytes (Err kind) =
     StopsAt Does old new bytes kind [] × ((new ≡ old) ⊎ LacksMemory Does old new bytes)
 
--- if a script ended with a read fault, its reader has failed, or its lines were more than 64 bits count
-abbrev pub HasReaderFailed : Bool → Result (Unit {0}) ScriptFault → Type 0
-HasReaderFailed failed result =
-    IfErr result (λ fault. fault.kind ≡ ReadFault → (failed ≡ true) ⊎ (fault.line ≡ 2 ^ 64 - 1))
+-- if a script ended with a read fault, its reader has failed, or it has more lines than 64 bits have numbers for, where
+-- so many numbers were used before its first line
+abbrev pub HasReaderFailed : ℕ → Bool → Result (Unit {0}) ScriptFault → Type 0
+HasReaderFailed used failed result =
+    IfErr result (λ fault. fault.kind ≡ ReadFault → (failed ≡ true) ⊎ (2 ^ 64 - 1 ≤ used + fault.line))
 
 -- lines were run after all memory for reading was taken; or that memory was refused
 abbrev pub RunsOrNot : (Does : Doing) → Admin → (known before after : Option (List ℕ)) → Result (Unit {0}) ScriptFault → Type 0

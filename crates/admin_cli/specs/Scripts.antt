@@ -14,8 +14,7 @@ use Rattle.script_text.specs.Input.{lines_of}
 use Rattle.script_text.specs.Script.{line_of, TakesMemory}
 use Rattle.script_output.specs.Lines.{output_line}
 use Rattle.script_output.specs.Writing.{TakesText}
-use Rattle.cluster_core.specs.SentBytes.{none_sent}
-use Rattle.admin_cli.specs.Admin.{Admin}
+use Rattle.admin_cli.specs.Admin.{Admin, begun}
 use Rattle.admin_cli.specs.declared.faults.ScriptFault.{ScriptFault}
 use Rattle.admin_cli.specs.declared.faults.FaultKind.{FaultKind}
 use Rattle.admin_cli.specs.declared.faults.FaultKind.TheVariants.{NotCommand, TooLong, ReadFault, WriteFault, OutOfMemory}
@@ -145,13 +144,7 @@ pub record RunsFormatted (Does : Doing) (ranks cache limit : ℕ) (known before 
     (result : Result (Unit {0}) ScriptFault) : Type 0 where
   pub book : KeptState
   pub formatted : IsFormatted ranks cache limit book
-  pub runs : RunsInput Does (record {
-    book =
-        book;
-    operations = 0;
-    jobs = map.empty;
-    sent = none_sent;
-  }) known before after result
+  pub runs : RunsInput Does (begun book) known before after result
 
 -- memory for a book, or to read lines, was refused before the first line: nothing was written
 pub record NeverStarts (before after : Option (List ℕ)) (result : Result (Unit {0}) ScriptFault) : Type 0 where

@@ -72,8 +72,8 @@ impl<S: Keep + Drop> Admin<S> {
         }
     }
 
-    /// Asks an operation alone at rank 0, as client 0. Its transaction number, which is also its oldest, is the number
-    /// of such lines so far.
+    /// Asks an operation alone at rank 0, as client 0. Its transaction number, which is also its oldest, is the next
+    /// after that of the last such line.
     #[inline(never)]
     pub(crate) fn ask_operation(&mut self, alloc: Global, op: Op) -> OutputLine
         requires { self.old.operations + 1 < 2 ^ 64 }

@@ -1,10 +1,8 @@
 //! Commands over a book.
 
 ghost use Rattle.std.specs.Prelude.{◌≡◌, ◌+◌, ◌<◌, ◌≤◌, ◌^◌, IfOk, OnErr};
-ghost use Rattle.std.specs.FinMap as map;
-ghost use Rattle.cluster_core.specs.SentBytes.{none_sent};
 ghost use Rattle.admin_cli.specs.StepLines.{shown_line as line_of};
-ghost use Rattle.admin_cli.specs.Admin.{seen};
+ghost use Rattle.admin_cli.specs.Admin.{begun, seen};
 
 use crate::kept_jobs::KeptJobs;
 use crate::modes::Mode;
@@ -16,8 +14,8 @@ use script_text::Command;
 use std::alloc::{AllocError, Global};
 use std::thread::Threads;
 
-/// A book with all that a script knows beside it: how many lines with an operation alone were read, the jobs that were
-/// begun, and the bytes that exports sent.
+/// A book with all that a script knows beside it: the number of the last line with an operation alone, or client 0's
+/// mark before the first such line, the jobs that were begun, and the bytes that exports sent.
 #[derive(Drop)]
 pub struct Admin<S: Keep + Drop> {
     pub(crate) book: Book<S>,
@@ -34,11 +32,12 @@ impl<S: Keep + Drop> Admin<S> {
 
     /// An administrator of this book, who has read no line yet.
     pub fn new(alloc: Global, book: Book<S>) -> Admin<S>
-        ensures { seen result ≡ record { book = book; operations = 0; jobs = map.empty; sent = none_sent } }
+        ensures { seen result ≡ begun book }
     {
+        let operations = book.mark(0);
         Admin {
             book,
-            operations: 0,
+            operations,
             jobs: KeptJobs::new(alloc),
             sent: KeptBytes::new(alloc),
         }
@@ -90,7 +89,7 @@ impl<S: Keep + Drop> Admin<S> {
         }
     }
 
-    /// Does what a command asks for, and returns the line to print. One more line still fits the 64-bit count of lines.
+    /// Does what a command asks for, and returns the line to print. One more number of such a line still fits 64 bits.
     /// An error tells that memory of the script's own was refused: for a job that a step gave, for the bytes of an
     /// export or a copy of them before its step, or for the list of the subtree map. No answer of a step is lost but a
     /// job that was to be kept. The function isn't inlined: most lines are operations, and its caller would clear room
@@ -129,8 +128,8 @@ impl<S: Keep + Drop> Admin<S> {
         }
     }
 
-    /// An operation alone arrives at rank 0 as client 0. Its transaction number, which is also its oldest, is the
-    /// number of such lines so far. It is served there, unless its arrival was refused. This and the next four are
+    /// An operation alone arrives at rank 0 as client 0. Its transaction number, which is also its oldest, is the next
+    /// after that of the last such line. It is served there, unless its arrival was refused. This and the next four are
     /// functions of their own, or each line would clear the room that any of them needs.
     #[inline(never)]
     pub fn operate(&mut self, alloc: Global, op: Op) -> Result<Answer, Refusal>

@@ -1,9 +1,9 @@
 //! Running a script.
-ghost use Rattle.std.specs.Prelude.{◌≡◌, ◌+◌, ◌++◌, ◌<◌, ◌≤◌, ◌^◌, [], List, false, length, true, IfSome};
+ghost use Rattle.std.specs.Prelude.{◌≡◌, ◌+◌, ◌-◌, ◌++◌, ◌<◌, ◌≤◌, ◌^◌, [], List, false, length, true, IfSome};
 ghost use Rattle.std.specs.FinMap as map;
 ghost use Rattle.cluster_core.specs.Opening.{Opening, fresh};
+ghost use Rattle.sessions.specs.Table.{mark_in};
 ghost use Rattle.mds_types.specs.declared.entries.Entry.{Entry as Applied};
-ghost use Rattle.cluster_core.specs.SentBytes.{none_sent};
 ghost use Rattle.cluster_core.specs.Sound.{StandsBehind};
 ghost use Rattle.script_text.specs.declared.commands.Command.TheVariants.{Operation};
 ghost use Rattle.script_text.specs.declared.lines.Line.TheVariants as asked;
@@ -15,7 +15,7 @@ ghost use Rattle.admin_cli.specs.Printed.{PrintsOneThread};
 ghost use Rattle.admin_cli.specs.Scripts.{IsFormatted, RunsInput, RunsNew};
 ghost use Rattle.admin_cli.specs.OneLine.{AnswersLine, DoesBytes, HasReaderFailed, Prints, RunsOrNot};
 ghost use Rattle.admin_cli.specs.Waiting.{IsEmpty, LeavesWaiting, PrintsApart, PrintsCame, PrintsOf, PrintsOutput, RunsWaiting};
-ghost use Rattle.admin_cli.specs.Admin.{seen};
+ghost use Rattle.admin_cli.specs.Admin.{begun, seen};
 
 use crate::commands::{Admin, shown_line};
 use crate::faults::{FaultKind, ScriptFault};
@@ -52,7 +52,7 @@ pub fn run_script<H: AllocGlobal + Threads + Sync, R: Read + Drop, W: Write>(
     requires few { ranks ≤ 16 }
     requires least { 512 ≤ cache }
     requires most { cache ≤ 65536 }
-    ensures one_thread { PrintsOneThread limit (fresh map.empty) [] [] (R.remaining reader) (W.contents writer.old)
+    ensures one_thread { PrintsOneThread limit (fresh map.empty) [] [] 0 (R.remaining reader) (W.contents writer.old)
         (W.contents writer.new) result }
     ensures ran { RunsNew Executes ranks cache limit (R.remaining reader) (W.contents writer.old) (W.contents writer.new)
         result }
@@ -75,7 +75,7 @@ pub fn run_new<H: AllocGlobal + Threads + Sync, R: Read + Drop, W: Write, T: Tel
     requires few { ranks ≤ 16 }
     requires least { 512 ≤ cache }
     requires most { cache ≤ 65536 }
-    ensures one_thread { PrintsOneThread limit (fresh map.empty) [] [] (R.remaining reader) (W.contents writer.old)
+    ensures one_thread { PrintsOneThread limit (fresh map.empty) [] [] 0 (R.remaining reader) (W.contents writer.old)
         (W.contents writer.new) result }
     ensures ran { RunsNew (DoesUnder mode) ranks cache limit (R.remaining reader) (W.contents writer.old)
         (W.contents writer.new) result }
@@ -120,13 +120,12 @@ where
     T: Tell,
     ensures one_thread { (opening : Opening) (past : List Applied) → StandsBehind opening past book
         → PrintsOneThread book.core.state.tree.limit opening (past ++ book.history)
-        (waiting_in book.core.state.inboxes) (R.remaining reader) (W.contents writer.old) (W.contents writer.new)
-        result.ended }
+        (waiting_in book.core.state.inboxes) (mark_in book.core.state.sessions 0) (R.remaining reader)
+        (W.contents writer.old) (W.contents writer.new) result.ended }
     ensures left { (opening : Opening) (past : List Applied) → StandsBehind opening past book
         → LeavesOneThread opening past book result.book (R.remaining reader) (W.contents writer.old)
         (W.contents writer.new) result.ended }
-    ensures ran { RunsOrNot (DoesUnder mode) (record { book = book; operations = 0; jobs = map.empty; sent = none_sent })
-        (R.remaining reader) (W.contents writer.old) (W.contents writer.new) result.ended }
+    ensures ran { RunsOrNot (DoesUnder mode) (begun book) (R.remaining reader) (W.contents writer.old) (W.contents writer.new) result.ended }
     ensures leaves { LeavesBook (DoesUnder mode) book result.book (R.remaining reader) (W.contents writer.old)
         (W.contents writer.new) result.ended }
 {
@@ -170,7 +169,6 @@ fn run_input<R: Read + Drop, W: Write, S: Keep + Drop, T: Tell>(
     mode: &Mode,
     teller: &T,
 ) -> Result<(), ScriptFault>
-    requires { admin.old.operations ≡ 0 }
     ensures runs { RunsOrNot (DoesUnder mode.now) (seen admin.old) (R.remaining reader) (W.contents writer.old)
         (W.contents writer.new) result }
     ensures leaves { LeavesAdmin (DoesUnder mode.now) (seen admin.old) (seen admin.new) (R.remaining reader) (W.contents writer.old)
@@ -219,7 +217,7 @@ impl<R: Read> ReadAhead for BufReader<R> {
 }
 
 // Runs the lines of a reader one after the other. Printed lines are gathered and written together, and always before
-// the reader waits for more. If there are more lines than 64 bits count, that is a read fault.
+// the reader waits for more. If there are more lines than 64 bits have numbers for, that is a read fault.
 fn run_lines<R: ReadAhead, W: Write, S: Keep + Drop, T: Tell>(
     rt: &(impl AllocGlobal + Threads + Sync),
     reader: &mut R,
@@ -230,15 +228,15 @@ fn run_lines<R: ReadAhead, W: Write, S: Keep + Drop, T: Tell>(
     mode: &Mode,
     teller: &T,
 ) -> Result<(), ScriptFault>
-    requires first { admin.old.operations ≡ 0 }
     requires empty { IsEmpty waiting.old }
     ensures runs { RunsWaiting (DoesUnder mode.now) (seen admin.old) waiting.new (R.remaining reader.old)
         (W.contents writer.old) (W.contents writer.new) result }
     ensures leaves { LeavesWaiting (DoesUnder mode.now) (seen admin.old) (seen admin.new) waiting.new (R.remaining reader.old)
         (W.contents writer.old) (W.contents writer.new) result }
-    ensures failed { HasReaderFailed buffer.new.failed result }
+    ensures failed { HasReaderFailed admin.old.operations buffer.new.failed result }
 {
-    for line in 1..u64::MAX {
+    let last = last_line(admin.operations);
+    for line in 1..last {
         if let Err(fault) = waiting.settle(reader.has_line(), writer) {
             return Err(fault);
         }
@@ -267,10 +265,17 @@ fn run_lines<R: ReadAhead, W: Write, S: Keep + Drop, T: Tell>(
             return Err(fault);
         }
     }
-    Err(ScriptFault {
-        line: u64::MAX,
-        kind: FaultKind::ReadFault,
-    })
+    Err(at(last, FaultKind::ReadFault))
+}
+
+// The number of the line that is never read: after so many operations alone, there are 64-bit numbers for operations
+// alone on all lines before it.
+fn last_line(operations: u64) -> u64
+    ensures least { 1 ≤ result }
+    ensures room { 1 < result → operations + result < 2 ^ 64 }
+    ensures full { 2 ^ 64 - 1 ≤ operations + result }
+{
+    (u64::MAX - operations).max(1)
 }
 
 // Runs the line of this number, and puts the line that it prints behind the waiting text.

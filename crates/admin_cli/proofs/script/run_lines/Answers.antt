@@ -6,7 +6,7 @@ use Rattle.admin_cli.specs.Admin.{seen}
 use Rattle.admin_cli.proofs.script.run_lines.Goals as goal
 
 pub loop-line-init : goal.loop-line-init
-loop-line-init g c = record { few = omega (arith, c.requires.first); reached = begin (DoesUnder c.args.mode.now) _ _ _ _ _ c.requires.empty.0 c.requires.empty.1 }
+loop-line-init g c = record { few = omega arith; reached = begin (DoesUnder c.args.mode.now) _ _ _ _ _ c.requires.empty.0 c.requires.empty.1 }
 
 pub returns-in-Err-clause-runs : goal.returns-in-Err-clause-runs
 returns-in-Err-clause-runs g c = stop_settling (DoesUnder c.args.mode.now) _ _ _ _ _ _ _ c.loop-line.waiting c.settle.new.self _ c.loop-line.invariant.reached c.in-Err.fault c.in-Err.ensures
@@ -34,9 +34,9 @@ returns-in-Err-run_line-clause-runs g c =
 
 pub returns-clause-runs : goal.returns-clause-runs
 returns-clause-runs g c =
-    let last : c.loop-line.line ≡ 18446744073709551615 = omega (arith, c.loop-line.auto.line-end, c.loop-line-test.false) in
+    let last : c.loop-line.line ≡ c.last_line-last.result = omega (arith, c.loop-line.auto.line-end, c.loop-line-test.false) in
     stop_reading (DoesUnder c.args.mode.now) (seen c.args.admin.now) (seen c.loop-line.admin) (g.R.Read.remaining c.args.reader.now) (g.R.Read.remaining c.loop-line.reader) (g.W.Write.contents c.args.writer.now)
-    (g.W.Write.contents c.loop-line.writer) c.loop-line.waiting 18446744073709551615 (rw last at c.loop-line.invariant.reached)
+    (g.W.Write.contents c.loop-line.writer) c.loop-line.waiting c.last_line-last.result (rw last at c.loop-line.invariant.reached)
 
 pub loop-line-preserved : goal.loop-line-preserved
 loop-line-preserved g c = record {
