@@ -1,3 +1,5 @@
 pub mod ClientRows
 pub mod Keys
 pub mod RankRows
+pub mod Restoring
+pub mod Sessions

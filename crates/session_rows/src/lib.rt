@@ -15,6 +15,9 @@ mod faults;
 mod keys;
 pub mod laws;
 mod rank_rows;
+mod restoring;
+mod rows_faults;
+mod storing;
 mod told;
 mod writer;
 
@@ -22,5 +25,8 @@ pub use client_rows::{ClientRow, decode_client};
 pub use faults::RowFault;
 pub use keys::{Key, client_key, key_of, rank_key};
 pub use rank_rows::{decode_rank, encode_rank};
+pub use restoring::{Restored, restore};
+pub use rows_faults::RowsFault;
+pub use storing::edits_of;
 pub use told::Told;
 pub use writer::RowWriter;
