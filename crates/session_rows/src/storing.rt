@@ -17,7 +17,10 @@ use mds_types::{Bytes, Entry, Ino, Rank};
 use sessions::{ClientKept, Sessions};
 use std::alloc::{AllocError, Global};
 
-/// The edits that store what is kept of each changed client, and the inode number that each of the first ranks hands
+// The client of a script's bare operations. Each run counts them anew and nobody can repeat one, so no row is stored.
+const CONSOLE: u64 = 0;
+
+/// The edits that store what is kept of each changed client but client 0, and the inode number that each of the first ranks hands
 /// out next, in the order of ranks. `history` has the entries that aren't forgotten. Takes memory for the edits.
 pub fn edits_of(
     alloc: Global,
@@ -51,7 +54,9 @@ fn client_edits(
 {
     let mut edits = Vec::new(alloc);
     for client in sessions.changed() {
-        edits.push(client_edit(alloc, sessions, history, *client)?)?;
+        if *client != CONSOLE {
+            edits.push(client_edit(alloc, sessions, history, *client)?)?;
+        }
     }
     Ok(edits)
 }
