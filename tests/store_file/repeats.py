@@ -9,18 +9,23 @@ nothing that it asked for is lost. An easy one repeats those alone to which it h
 """
 import copy
 import os
+import pickle
 import random
 import signal
+import sqlite3
+import sys
+import tempfile
 import threading
 import time
 
 from formats import FIRST, ROOT, Unsound, wants
 from kills import differences
 from served import Ended, Served, Told, inode_of
-from sessions import rows_of_sessions, sessions_of
-from stores import removed, rows_of, tree_of
+from sessions import replies_in, rows_of_sessions, session_bytes, session_of, sessions_of
+from stores import TABLES, removed, rows_of, tree_of
 
-HOMES = 5
+# the client that makes so many directories for the others
+MAKER, HOMES = 9, 5
 MOMENTS = ['in requests', 'in requests', 'in a flush', 'in a flush', 'opening', 'at its end']
 # how many runs use a file, one after the other
 RUNS = 25
@@ -46,12 +51,12 @@ class State:
             wants(number not in self.given, f'{line}: {words[1]} was given to {self.given.get(number)}, and is given to {client}, {tid}')
             table.next_ino, self.given[number] = number, (client, tid)
         answer, mark = table.answer(line), max(mark, oldest)
-        if client:
-            self.marks[client], self.replies[client] = mark, {it: reply for it, reply in kept.items() if it >= mark} | {tid: answer}
+        self.marks[client], self.replies[client] = mark, {it: reply for it, reply in kept.items() if it >= mark} | {tid: answer}
         return True, answer
 
     def places(self):
-        return sum(map(len, self.replies.values()))
+        """How many places another run counts as used: one for each reply that is kept, and one for each mark."""
+        return sum(map(len, self.replies.values())) + sum(mark > 0 for mark in self.marks.values())
 
     def nexts(self):
         """The next number of each rank that has given one."""
@@ -61,11 +66,13 @@ class State:
             found[rank] = max(found.get(rank, 0), number + 1)
         return found
 
-    def has(self, path):
+    def has(self, path, looks_at_rows=True):
         """Whether a file has this tree, these sessions and these numbers: what differs, or nothing."""
         tree = tree_of(rows_of(path))
         if tree != self.told.tree():
             return f'the tree differs: {differences(tree, [self.told.tree()])}'
+        if not looks_at_rows:
+            return None
         clients, nexts = sessions_of(rows_of_sessions(path))
         wanted = {client: (mark, self.replies[client]) for client, mark in self.marks.items()}
         if clients != wanted:
@@ -114,7 +121,7 @@ class Client:
             return f'rename {at} {home:x} {name}'
         if kind == 'remove':
             return f'{"rmdir" if self.own.pop(old)[1] == "mkdir" else "unlink"} {at}'
-        return f'setattr {at} mtime {self.tid} mode 700' if kind == 'setattr' else f'{kind} {at}'
+        return f'setattr {at} mode 700 mtime {self.tid}' if kind == 'setattr' else f'{kind} {at}'
 
     def answered(self, asked):
         asked.is_answered = True
@@ -131,10 +138,13 @@ class Client:
         self.pending = [it for it in self.pending if not it.is_answered]
 
     def restarted(self):
-        """The program is another one: all that is pending is repeated. An easy client looks at what is there."""
+        """The program is another one: all that is pending is repeated."""
         self.again = list(self.pending)
+        for asked in self.again:
+            asked.is_answered = False
 
     def looks(self, tree):
+        """An easy client looks for what it has."""
         if not self.is_careful:
             mine = f'c{self.number}_'.encode()
             self.own = {name.decode(): (home, 'mkdir' if inode.kind == 'dir' else 'create') for (home, name), inode in tree.items() if name.startswith(mine)}
@@ -149,8 +159,10 @@ class Client:
 class Repeats:
     """Runs over one file, one after the other. `saved` is the state of the last flush that was answered, `trying` that of the one under way."""
 
-    def __init__(self, program, folder, seed):
-        self.program, self.folder, self.chance = program, folder, random.Random(seed)
+    def __init__(self, program, folder, seed, moments=MOMENTS):
+        self.program, self.folder, self.chance, self.moments = program, folder, random.Random(seed), moments
+        # without, faults have to be seen by what is answered, and not by places or the file's rows
+        self.looks_at_all = True
         self.usual = {'opening': 0.01, 'in a flush': 0.005, 'at its end': 0.005, 'in requests': 0.05}
         self.files, self.counts, self.seen = 0, {}, dict.fromkeys(('new', 'again', 'again behind a restart', 'refused 4'), 0)
         self.killed = 0
@@ -161,14 +173,14 @@ class Repeats:
         self.files += 1
         self.path = os.path.join(self.folder, f'repeats{self.files}')
         self.saved, self.trying, self.now, self.is_killed = State(), None, State(), False
-        numbers = [1, 2, 3, (1 << 64) - 1, self.chance.randrange(4, 1 << 64)]
+        numbers = [1, 2, 3, (1 << 64) - 1, self.chance.randrange(MAKER + 1, (1 << 64) - 1)]
         self.clients = [Client(number, k % 2 == 0) for k, number in enumerate(numbers)]
         self.homes = []
         self.open('')
         for k in range(HOMES):
             line = f'mkdir 1 home{k} 755'
-            said = self.run.say(line)
-            self.hears(0, k + 1, k + 1, line, said)
+            said = self.run.say(f'req 0 {MAKER} {k + 1} {k + 1} {line}')
+            self.hears(MAKER, k + 1, k + 1, line, said)
             self.homes.append(inode_of(said.split(' ', 5)[5]).ino)
         self.flush()
         wants(self.run.close() == (0, '', ''), 'the first run doesn\'t end well')
@@ -186,7 +198,7 @@ class Repeats:
 
     def turn(self):
         """A run, and what its kill leaves."""
-        self.open(self.chance.choice(MOMENTS))
+        self.open(self.chance.choice(self.moments))
         if self.moment == 'opening':
             self.kill_within()
         begin = time.monotonic()
@@ -293,11 +305,11 @@ class Repeats:
               f'client {client}, {tid}, {line}: {said}, and not {"new" if is_new else "again"} {answer}')
         place = int(words[3])
         if is_new:
-            wants(place == self.begin + self.news, f'client {client}, {tid}: place {place}, and not {self.begin} + {self.news}')
+            wants(not self.looks_at_all or place == self.begin + self.news, f'client {client}, {tid}: place {place}, and not {self.begin} + {self.news}')
             self.news, self.heard[client, tid] = self.news + 1, place
         else:
             was = self.heard.get((client, tid))
-            wants(place == was if was is not None else place < self.begin, f'client {client}, {tid}: place {place} again, and not {was}')
+            wants(place == was if was is not None else not self.looks_at_all or place < self.begin, f'client {client}, {tid}: place {place} again, and not {was}')
             self.seen['again behind a restart'] += was is None
         self.seen['new' if is_new else 'again'] += 1
 
@@ -321,7 +333,7 @@ class Repeats:
         if ended:
             self.saved, self.trying = self.trying, None
         allowed = [it for it in (self.saved, self.trying) if it]
-        found = [it.has(self.path) for it in allowed]
+        found = [it.has(self.path, self.looks_at_all) for it in allowed]
         wants(None in found, f'the file has none of the states that may be there: {" | ".join(filter(None, found))}')
         which = found.index(None)
         self.saved, self.trying = allowed[which], None
@@ -339,7 +351,7 @@ class Repeats:
                 client.answered(asked)
         self.flush()
         wants(self.run.close() == (0, '', ''), 'the last run doesn\'t end well')
-        differs = self.saved.has(self.path)
+        differs = self.saved.has(self.path, self.looks_at_all)
         wants(not differs, f'at the end {differs}')
         tree = tree_of(rows_of(self.path))
         for client in self.clients:
@@ -348,9 +360,10 @@ class Repeats:
         removed(self.path)
 
 
-def repeated(program, folder, seed, count):
+def repeated(program, folder, seed, count, moments=MOMENTS, looks_at_all=True):
     """Kills `count` runs; some more end before their kill."""
-    it, runs = Repeats(program, folder, seed), 0
+    it, runs = Repeats(program, folder, seed, moments), 0
+    it.looks_at_all = looks_at_all
     while it.killed < count:
         runs += 1
         try:
@@ -363,3 +376,98 @@ def repeated(program, folder, seed, count):
             raise Unsound(f'seed {seed}, run {runs}, killed {it.moment}: {why}') from None
     wants(count < 50 or all(number > count for number in it.seen.values()), f'there were only {it.seen}')
     return it.counts | it.seen
+
+
+WRAPPED = """#!{python}
+import os, sys
+sys.dont_write_bytecode = True
+sys.path[:0] = {folders!r}
+import repeats
+repeats.wrong({what!r}, sys.argv[sys.argv.index('--store') + 1])
+os.execv({program!r}, [{program!r}, *sys.argv[1:]])
+"""
+
+
+def clients_in(rows):
+    return sorted(key for key in rows if len(key) == 8)
+
+
+def altered(rows, alter):
+    """The rows with each client's mark and replies as `alter` has them."""
+    for key in clients_in(rows):
+        mark, replies = session_of(rows[key])
+        bytes_of = {tid: rows[key][at:end] for tid, at, end in replies_in(rows[key])}
+        rows[key] = session_bytes(*alter(mark, [(tid, bytes_of[tid]) for tid in replies]))
+    return rows
+
+
+def exchanged(rows):
+    """The first two clients have each other's rows."""
+    keys = clients_in(rows)[:2]
+    return rows | {key: rows[other] for key, other in zip(keys, reversed(keys))}
+
+
+def as_before(rows, path):
+    """The rows as the run before found them."""
+    other = path + '.rows'
+    before = pickle.load(open(other, 'rb')) if os.path.exists(other) else rows
+    with open(other, 'wb') as file:
+        pickle.dump(rows, file)
+    return before
+
+
+# what a program may do wrong with the rows that it reads; a file and its log is written anew with what it takes them for
+WRONG = {
+    'no rows are kept': lambda rows, _: {},
+    'no clients are kept': lambda rows, _: {key: value for key, value in rows.items() if len(key) == 1},
+    'no next numbers are kept': lambda rows, _: {key: value for key, value in rows.items() if len(key) == 8},
+    'a client is not kept': lambda rows, _: {key: value for key, value in rows.items() if key not in clients_in(rows)[1:2]},
+    'a next number is one too low': lambda rows, _: {key: (int.from_bytes(value, 'little') - 1).to_bytes(8, 'little')
+                                                     if len(key) == 1 and int.from_bytes(value, 'little') % FIRST else value for key, value in rows.items()},
+    'a mark is not kept': lambda rows, _: altered(rows, lambda mark, replies: (0, replies)),
+    'a mark is one too low': lambda rows, _: altered(rows, lambda mark, replies: (max(mark, 1) - 1, replies)),
+    'replies are not kept': lambda rows, _: altered(rows, lambda mark, replies: (mark, [])),
+    'the last reply is not kept': lambda rows, _: altered(rows, lambda mark, replies: (mark, replies[:-1])),
+    'a reply is kept under the next number': lambda rows, _: altered(rows, lambda mark, replies: (mark, replies[:-1] + [(replies[-1][0] + 1, replies[-1][1])])),
+    'two clients have each other\'s rows': lambda rows, _: exchanged(rows),
+    'the rows are those of the run before': as_before,
+}
+
+
+def wrong(what, path):
+    """Writes a file anew, without sums, with rows that something is wrong with."""
+    if not os.path.exists(path):
+        return
+    tree, rows = rows_of(path), rows_of_sessions(path)
+    removed(path)
+    base = sqlite3.connect(path)
+    for table in TABLES:
+        base.execute(table)
+    base.executemany('INSERT INTO object VALUES (CAST(? AS TEXT), ?)', tree[0].items())
+    base.executemany('INSERT INTO omap VALUES (CAST(? AS TEXT), CAST(? AS TEXT), ?)', [(name, *pair) for name, pairs in tree[1].items() for pair in pairs.items()])
+    base.executemany('INSERT INTO session_map VALUES (?, ?)', WRONG[what](rows, path).items() if what else rows.items())
+    base.commit()
+    base.close()
+
+
+def wrapped(program, folder, what):
+    path, here = os.path.join(folder, 'wrong'), os.path.dirname(os.path.abspath(__file__))
+    with open(path, 'w') as file:
+        file.write(WRAPPED.format(python=sys.executable, program=program, folders=[here, os.path.join(here, '../operation_table')], what=what))
+    os.chmod(path, 0o755)
+    return path
+
+
+def planted(program, folder):
+    """Each fault is seen by what is answered; and none where the file is but written anew."""
+    moments, seen = [moment for moment in MOMENTS if moment != 'opening'], {}
+    repeated(wrapped(program, folder, None), folder, 1, 10, moments)
+    for what in WRONG:
+        with tempfile.TemporaryDirectory(dir=folder) as place:
+            try:
+                repeated(wrapped(program, place, what), place, 1, 60, moments, looks_at_all=False)
+            except Unsound as why:
+                wants('Traceback' not in str(why), f'{what}: {why}')
+                seen[what] = str(why)
+    wants(len(seen) == len(WRONG), f'nothing sees: {", ".join({*WRONG} - {*seen})}')
+    return seen

@@ -47,16 +47,23 @@ def key_of(client):
 
 def session_of(value):
     """A client's mark, and the replies that are kept for it, each as a script prints it."""
-    wants(len(value) >= 8, f'a session of {len(value)} bytes')
-    mark, at, replies = int.from_bytes(value[:8], 'little'), 8, {}
-    while at < len(value):
-        wants(len(value) >= at + 12, 'a session is cut short')
-        tid, length = struct.unpack_from('<QI', value, at)
+    mark, replies = int.from_bytes(value[:8], 'little'), {}
+    for tid, at, end in replies_in(value):
         wants(tid >= mark and tid > max(replies, default=-1), f'a reply to {tid}, with a mark of {mark}, behind {sorted(replies)}')
-        at += 12 + length
-        wants(len(value) >= at, 'a session is cut short')
-        replies[tid] = reply_of(value[at - length:at])
+        replies[tid] = reply_of(value[at:end])
     return mark, replies
+
+
+def replies_in(value):
+    """The number of each reply in a client's row, and where its bytes begin and end."""
+    wants(len(value) >= 8, f'a session of {len(value)} bytes')
+    end = 8
+    while end < len(value):
+        wants(len(value) >= end + 12, 'a session is cut short')
+        tid, length = struct.unpack_from('<QI', value, end)
+        at, end = end + 12, end + 12 + length
+        wants(len(value) >= end, 'a session is cut short')
+        yield tid, at, end
 
 
 def session_bytes(mark, replies):
