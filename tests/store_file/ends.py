@@ -85,7 +85,7 @@ def serve(program, folder):
         done = subprocess.run([program, 'serve', *words, '--store', path], capture_output=True, text=True)
         came = done.returncode, done.stdout.splitlines(), done.stderr
         wants(came == ((0, ['served 12', 'audit ok', *paths], '') if run == 0 else
-                       (1, [], f'cephmeta: {path}: has a tree, and serve begins with an empty one\n')), f'run {run} of serve: {came}')
+                       (1, [], f'cephmeta: {path}: has a tree or sessions, and serve begins with an empty tree and none\n')), f'run {run} of serve: {came}')
         wants(log_of(path) is None, f'run {run} of serve leaves a log')
         tree = tree_of(rows_of(path, log=False))
         folders = {inode.ino: name.decode() for (above, name), inode in tree.items() if inode.kind == 'dir'}

@@ -119,10 +119,10 @@ def bytes_of_files(it):
         it.refuses(it.holds('short', b'A text that is short. '.ljust(length, b'-')[:length]), 'is no database')
     whole = open(it.good, 'rb').read()
     page = int.from_bytes(whole[16:18], 'big')
-    wants(len(whole) == 3 * page, f'the small store has {len(whole)} bytes')
+    wants(len(whole) == 4 * page, f'the small store has {len(whole)} bytes')
     for length in (1, 15, 16, 99):
         it.refuses(it.holds('cut', whole[:length]), CUT)
-    for length in (100, 511, 512, page - 1, page, page + 512, 2 * page, 3 * page - 1):
+    for length in (100, 511, 512, page - 1, page, page + 512, 2 * page, 3 * page, 4 * page - 1):
         it.refuses(it.holds('cut', whole[:length]), DAMAGED)
     # a file that lost all of its bytes, and has its log yet
     run = Served(it.program, it.copy('logged'))

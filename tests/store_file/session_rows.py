@@ -51,8 +51,8 @@ def is_kept(program, folder):
     again = re.sub(r'^(reply \d+ \d+) \d+ ', r'\1 P ', '\n'.join(printed), flags=re.M).splitlines()
     wants(again == [f'reply 1 4 P again {TOLD[1][1][4]}', f'reply 1 5 P again {TOLD[1][1][5]}', 'refused 4', f'reply 2 9 P again {TOLD[2][1][9]}', 'refused 4',
                     'reply 1 6 P new entry 10000000003 file 644 0 0', 'refused 4'], f'the next run prints {printed}')
-    # places begin behind the three replies that are kept
-    wants(printed[5].split()[3] == '3' and all(int(printed[k].split()[3]) < 3 for k in (0, 1, 3)), f'the places are those of {printed}')
+    # places begin behind those of the three replies and the two marks that are kept
+    wants(printed[5].split()[3] == '5' and all(int(printed[k].split()[3]) < 5 for k in (0, 1, 3)), f'the places are those of {printed}')
 
 
 def broken(program, folder):
