@@ -274,7 +274,7 @@ class Repeats:
         client = self.chance.choice(self.clients)
         mark = self.now.marks.get(client.number, 0)
         if self.chance.random() < 0.1 and mark > 1:
-            tid = self.chance.randrange(1, mark)
+            tid = self.chance.choice([mark - 1, self.chance.randrange(1, mark)])
             return client, Asked(tid, self.chance.randint(0, tid), f'create 1 old{client.number}_{tid} 644')
         if client.again:
             # in one batch each comes once
@@ -465,7 +465,7 @@ def planted(program, folder):
     for what in WRONG:
         with tempfile.TemporaryDirectory(dir=folder) as place:
             try:
-                repeated(wrapped(program, place, what), place, 1, 60, moments, looks_at_all=False)
+                repeated(wrapped(program, place, what), place, 1, 80, moments, looks_at_all=False)
             except Unsound as why:
                 wants('Traceback' not in str(why), f'{what}: {why}')
                 seen[what] = str(why)
