@@ -4,6 +4,7 @@ import os
 import random
 import shutil
 import threading
+import time
 
 from calls import ABOVE, Calls, NAMING, READING, outcome
 from mounts import Mounted, TMPFS, equal, expect, room
@@ -75,7 +76,15 @@ def killing(mount, rand):
 
     def kill():
         while not ends.wait(rand.uniform(0, 0.15)):
+            if rand.random() < 0.5:
+                killed.append(mount.kill_program())
+                continue
+            # in the middle of a flush, or just behind it
+            flushing = threading.Thread(target=try_to_flush, args=[mount.path])
+            flushing.start()
+            time.sleep(rand.uniform(0, 0.01))
             killed.append(mount.kill_program())
+            flushing.join()
 
     thread = threading.Thread(target=kill)
     thread.start()

@@ -11,7 +11,7 @@ import struct
 
 from formats import FIRST, KINDS, wants
 from served import spelled
-from stores import read_by
+from stores import read_by, rows_of, tree_of
 
 INODE = struct.Struct('<BQQQIIHHH')
 
@@ -19,6 +19,11 @@ INODE = struct.Struct('<BQQQIIHHH')
 def rows_of_sessions(path):
     """The rows of a file and its log, from key to value; none where it has no tables."""
     return read_by(path, rows_by)
+
+
+def left_in(path):
+    """The tree of a file, and beside its names the session of each client, at (-1, client)."""
+    return tree_of(rows_of(path)) | {(-1, client): session for client, session in sessions_of(rows_of_sessions(path))[0].items()}
 
 
 def rows_by(base):
