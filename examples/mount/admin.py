@@ -8,6 +8,8 @@ import stat
 
 import trio
 
+from cluster import Anew
+
 # the administrator's lines of docs/SCRIPT.md
 LINES = """get subtrees|authority INO FRAG|dirfrag split RANK INO FRAG NB|dirfrag merge RANK INO FRAG|dirfrag ls INO|commit RANK INO FRAG
 begin RANK INO FRAG|end NB|drop NB|tree INO|export dir RANK INO FRAG RANK|export freeze INO FRAG|export prep INO FRAG|export send INO FRAG
@@ -18,8 +20,11 @@ FORMS = re.compile('|'.join(' '.join(WORDS.get(word, word) for word in line.spli
 
 
 def said(cluster, line):
+    """What a line prints; of another program, where this one is killed meanwhile."""
     try:
         return cluster.say(line) if FORMS.fullmatch(line) else "that is no administrator's line of docs/SCRIPT.md"
+    except Anew:
+        return said(cluster, line)
     except OSError as error:
         return error.strerror
 

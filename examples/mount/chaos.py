@@ -5,6 +5,8 @@ No answer of a request may depend on any of them.
 import collections
 import random
 
+from cluster import Anew
+
 EXPORT_STEPS = ['freeze', 'prep', 'send', 'import', 'finish']
 # so many of the last directories are looked at
 DIRECTORIES = 2000
@@ -38,7 +40,10 @@ class Chaos:
     def stir(self, cluster):
         """Some steps, mostly none."""
         while self.random.random() < self.probability:
-            step, said = self.random.choice(self.steps)(cluster)
+            try:
+                step, said = self.random.choice(self.steps)(cluster)
+            except Anew:
+                continue
             self.counts[step if said == 'done' else f'{step} {said}'] += 1
 
     def say(self, cluster, step, line):

@@ -166,10 +166,6 @@ class FileSystem(pyfuse3.Operations):
         how = escaped(target) if target is not None else f'{stat.S_IMODE(mode):o}'
         place = f'{directory:x} {escaped(name)}'
         inode = inode_of(self.cluster.request(f'{line} {place} {how} uid {ctx.uid} gid {group}'))
-        while inode.number in self.nodes:
-            # a program that was started anew gives numbers again that no name has, and the kernel may still know one of them
-            self.cluster.request(f'{"rmdir" if line == "mkdir" else "unlink"} {place}')
-            inode = inode_of(self.cluster.request(f'{line} {place} {how} uid {ctx.uid} gid {group}'))
         # what a crash left of another file of this number
         self.data.remove(inode.number)
         self.told(inode, (directory, name))

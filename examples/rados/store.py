@@ -19,6 +19,8 @@ TABLES = [
     'CREATE TABLE object (name TEXT NOT NULL PRIMARY KEY, header BLOB NOT NULL) WITHOUT ROWID',
     'CREATE TABLE omap (object TEXT NOT NULL, key TEXT NOT NULL, value BLOB NOT NULL, PRIMARY KEY (object, key)) '
     'WITHOUT ROWID',
+    # what clients were told: of the file alone, which no push brings to a pool
+    'CREATE TABLE session_map (key BLOB NOT NULL PRIMARY KEY, value BLOB NOT NULL) WITHOUT ROWID',
 ]
 # the bytes of a database that SQLite locks: who reads shares them, a running program has them for itself
 SHARED_FIRST, SHARED_SIZE = 0x40000002, 510
@@ -84,7 +86,8 @@ def settled(copy, path, push):
         with database(copy) as connection:
             tables = [text.decode() for (text,) in connection.execute('SELECT sql FROM sqlite_master WHERE sql NOT NULL '
                                                                       "AND name NOT LIKE 'pushed' ORDER BY name")]
-            if tables != TABLES:
+            # an older store lacks the last one
+            if tables not in (TABLES, TABLES[:-1]):
                 raise Refused(f'{path} is no store of cephmeta')
             connection.execute('PRAGMA synchronous = OFF')
             # deletes the log after its pages went into the file

@@ -1,14 +1,18 @@
-"""Kills: what is mounted after one is the tree of the last flush."""
-import errno
+"""Kills. Behind one of a mount and its program the tree is that of the last flush; one of the program alone no client notices."""
+import contextlib
 import os
 import random
+import shutil
 import threading
+import time
 
 from calls import ABOVE, Calls, NAMING, READING, outcome
 from mounts import Mounted, TMPFS, equal, expect, room
+from programs import git_session, new_repository
 from trees import difference, tree_of
 
 ROUNDS = 8
+KILLS = 20
 
 
 def flushed(path):
@@ -27,8 +31,8 @@ def try_to_flush(path):
 
 def killed(given):
     """In each round the last tree is there; random calls go on with it, a flush, and further calls, which change names and attributes alone, so that
-    bytes stay as they were flushed. Then the program is killed, in each second round while it is told to flush; so either tree may be there then,
-    whole. What calls come to between the kill and the end of the mount is EIO, and none hangs."""
+    bytes stay as they were flushed. Then mount and program are killed, in each second round while it is told to flush; so either tree may be there
+    then, whole."""
     rand = random.Random(given.seed)
     with room() as folder, room(TMPFS) as beside:
         words = ['--ranks', 3, '--chaos', 0.3, '--store', os.path.join(folder, 'tree.db'), '--data', os.path.join(folder, 'data'),
@@ -49,12 +53,10 @@ def killed(given):
                     may_be.append(tree_of(top))
                     flushing = threading.Thread(target=try_to_flush, args=[top])
                     flushing.start()
-                    mount.kill_program()
+                    mount.kill()
                     flushing.join()
                 else:
-                    mount.kill_program()
-                equal([outcome(os.listdir, top), outcome(os.mkdir, os.path.join(mount.path, 'new'))], ['EIO', 'EIO'], 'without its program a mount says')
-                mount.kill()
+                    mount.kill()
         # an end that isn't a kill keeps all
         for end in (Mounted.unmount, Mounted.terminate):
             with Mounted(given.program, folder, *words) as mount:
@@ -65,3 +67,87 @@ def killed(given):
             with Mounted(given.program, folder, *words) as mount:
                 equal(difference(tree_of(os.path.join(mount.path, ABOVE)), wanted), None, f'after {end.__name__}')
                 mount.unmount()
+
+
+@contextlib.contextmanager
+def killing(mount, rand):
+    """Kills the program again and again meanwhile; gives the list of the processes that were killed."""
+    killed, ends = [], threading.Event()
+
+    def kill():
+        while not ends.wait(rand.uniform(0, 0.15)):
+            if rand.random() < 0.5:
+                killed.append(mount.kill_program())
+                continue
+            # in the middle of a flush, or just behind it
+            flushing = threading.Thread(target=try_to_flush, args=[mount.path])
+            flushing.start()
+            time.sleep(rand.uniform(0, 0.01))
+            killed.append(mount.kill_program())
+            flushing.join()
+
+    thread = threading.Thread(target=kill)
+    thread.start()
+    try:
+        yield killed
+    finally:
+        ends.set()
+        thread.join()
+
+
+def goes_on(given):
+    """While the program is killed again and again each random call has the outcome that it has on tmpfs, and git does and leaves the same: nothing is
+    lost, and nothing is done twice. Flushes come seldom, so that many requests are in no file yet. What is there at the end is there at the next mount."""
+    rand = random.Random(given.seed)
+    with room() as folder, room(TMPFS) as beside:
+        words = ['--ranks', 3, '--chaos', 0.2, '--seed', given.seed, '--store', os.path.join(folder, 'tree.db'), '--data', os.path.join(folder, 'data'),
+                 '--flush-every', 300]
+        source, there, here = os.path.join(folder, 'source'), 'calls', 'git'
+        os.mkdir(source)
+        new_repository(source)
+        with Mounted(given.program, folder, *words) as mount:
+            for name in (there, here):
+                for top in (mount.path, beside):
+                    os.mkdir(os.path.join(top, name))
+            calls = Calls(given.seed, os.path.join(mount.path, there), os.path.join(beside, there))
+            with killing(mount, rand) as killed:
+                while len(killed) < KILLS:
+                    calls.make(100)
+            calls.compare()
+            with killing(mount, rand) as killed:
+                (said, left), (wanted, wanted_left) = (git_session(source, os.path.join(top, here)) for top in (mount.path, beside))
+                equal(said, wanted, 'git says of the clone')
+                equal(difference(left, wanted_left), None, 'the working tree')
+            expect(len(killed) >= KILLS, f'under git the program was killed {len(killed)} times')
+            calls.compare()
+            repeated = mount.repeated()
+            expect(len(repeated) >= KILLS and sum(repeated) > 100, f'so many requests were repeated behind kills: {repeated}')
+            mount.unmount()
+        with Mounted(given.program, folder, *words) as mount:
+            calls.compare()
+            left = git_session_left(os.path.join(mount.path, here))
+            equal(difference(left, git_session_left(os.path.join(beside, here))), None, 'mounted again the clone')
+            mount.unmount()
+
+
+def git_session_left(folder):
+    return {path: found for path, found in tree_of(os.path.join(folder, 'clone')).items() if not path.startswith('.git')}
+
+
+def cannot_go_on(given):
+    """Where no other program can be started a call comes to EIO, and none hangs. What was flushed is there at the next mount."""
+    with room() as folder:
+        program, words = os.path.join(folder, 'program'), ['--store', os.path.join(folder, 'tree.db')]
+        shutil.copy(given.program, program)
+        with Mounted(program, folder, *words) as mount:
+            os.mkdir(os.path.join(mount.path, 'flushed'))
+            flushed(mount.path)
+            os.mkdir(os.path.join(mount.path, 'lost'))
+            os.remove(program)
+            mount.kill_program()
+            for _ in range(2):
+                equal([outcome(os.listdir, mount.path), outcome(os.mkdir, os.path.join(mount.path, 'new'))], ['EIO', 'EIO'], 'without its program a mount says')
+            mount.kill()
+        with Mounted(given.program, folder, *words) as mount:
+            equal(os.listdir(mount.path), ['flushed'], 'then there is')
+            mount.unmount()

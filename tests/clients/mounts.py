@@ -2,16 +2,20 @@
 import contextlib
 import json
 import os
+import re
 import select
 import shutil
 import signal
 import subprocess
 import tempfile
+import time
 
 HERE = os.path.dirname(os.path.abspath(__file__))
 MOUNT = os.path.join(HERE, '../../examples/mount/cephmeta-mount')
 TELL = os.path.join(HERE, '../../examples/mount/cephmeta-tell')
 SYSTEM_PYTHON = '/usr/bin/python3'
+# what a mount says of each program that was killed
+ANEW = re.compile(r'cephmeta-mount: signal 9 ended the program: another one goes on, and (\d+) requests since the last flush are repeated')
 TMPFS = '/dev/shm'
 
 
@@ -59,6 +63,7 @@ class Mounted:
     """A mount below a folder. What it printed on standard error is told where a test fails."""
 
     def __init__(self, program, folder, *words, **more):
+        self.is_killed = False
         self.path, self.errors = os.path.join(folder, 'mount'), os.path.join(folder, 'errors')
         os.makedirs(self.path, exist_ok=True)
         with open(self.errors, 'w') as errors:
@@ -89,7 +94,8 @@ class Mounted:
         """What the mount prints at its end: with chaos, how many steps of each kind there were."""
         printed = self.process.stdout.read()
         status = self.process.wait()
-        expect(status == 0 and not self.complaint(), f'the mount ends with status {status}: {self.complaint()}')
+        unexpected = [line for line in self.complaint().splitlines() if not (self.is_killed and ANEW.fullmatch(line))]
+        expect(status == 0 and not unexpected, f'the mount ends with status {status}: {unexpected}')
         return json.loads(printed) if printed else {}
 
     def unmount(self):
@@ -100,21 +106,30 @@ class Mounted:
         self.process.send_signal(signal.SIGTERM)
         return self.ended()
 
+    def repeated(self):
+        """How many requests were repeated behind each kill."""
+        return [int(it[1]) for it in map(ANEW.fullmatch, self.complaint().splitlines()) if it]
+
     def kill(self):
-        """Both processes end at once, and nothing is written any more."""
+        """Both processes end at once, and nothing is written any more: the mount stops before, or it would start another program."""
+        self.process.send_signal(signal.SIGSTOP)
+        while self.process.poll() is None and open(f'/proc/{self.process.pid}/stat').read().rsplit(') ')[-1][0] != 'T':
+            time.sleep(0.001)
         self.kill_program()
         self.process.kill()
         self.process.wait()
         subprocess.run(['fusermount3', '-u', '-z', self.path], capture_output=True)
 
     def kill_program(self):
-        """The program ends at once, and has let go of its files when this returns."""
+        """The program ends at once, and has let go of its files when this returns; gives its number, or none where there is none."""
+        self.is_killed = True
         with contextlib.suppress(ProcessLookupError, IndexError, FileNotFoundError):
             program = self.program()
             handle = os.pidfd_open(program)
             os.kill(program, signal.SIGKILL)
             select.select([handle], [], [])
             os.close(handle)
+            return program
 
     def tell(self, socket, line):
         return subprocess.run([SYSTEM_PYTHON, TELL, socket, *line.split()], capture_output=True, text=True).stdout.rstrip('\n')

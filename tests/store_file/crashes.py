@@ -92,7 +92,7 @@ def told_by(it):
         os.remove(path)
     it.renew()
     disk = Disk(it.path)
-    run = Served(it.program, it.path, env={**it.environment('', 0, 0), 'CHANGES_TOLD': path})
+    run = Served(it.program, it.path, '--ask', env={**it.environment('', 0, 0), 'CHANGES_TOLD': path})
     try:
         for lines in it.flushes[:-1]:
             wants(run.ask([*lines, 'flush'])[-1] == 'flushed', 'a flush is not kept')

@@ -7,13 +7,14 @@ import subprocess
 from formats import ROOT, Unsound, wants
 from kills import differences
 from served import Ended, Served, Told, answer_of, inode_of, ran, went
+from sessions import left_in
 from stores import copied, log_of, removed, rows_of, tree_of, written
 
 HERE = os.path.dirname(os.path.abspath(__file__))
-FLUSHES = [['mkdir 1 d 755 uid 7', 'create 1 a 644', 'symlink 1 l /x/y', 'setpin 1 d 0'],
-           ['unlink 1 a', 'create 1 b%ff 600', 'rename 1 l 1 m'] + [f'create 1 f{k} 644' for k in range(60)],
-           ['setattr 1 m mtime 5', 'rmdir 1 d'] + [f'unlink 1 f{k}' for k in range(30)],
-           ['create 1 last 644']]
+FLUSHES = [['mkdir 1 d 755 uid 7', 'create 1 a 644', 'symlink 1 l /x/y', 'setpin 1 d 0', 'req 0 1 1 1 create 1 q 644', 'req 0 2 5 5 readdir 1 - 9'],
+           ['unlink 1 a', 'create 1 b%ff 600', 'rename 1 l 1 m', 'req 0 1 2 1 unlink 1 q'] + [f'create 1 f{k} 644' for k in range(60)],
+           ['setattr 1 m mtime 5', 'rmdir 1 d', 'req 0 2 6 6 mkdir 1 r 700', 'req 0 3 9 1 lookup 1 q'] + [f'unlink 1 f{k}' for k in range(30)],
+           ['create 1 last 644', 'req 0 1 4 2 readlink 1 m']]
 ERRORS = ['ENOSPC', 'EIO', 'short']
 # calls that a `short` can meet: the others give no bytes
 PARTLY = ('pread', 'pwrite')
@@ -32,7 +33,8 @@ def library(folder):
 
 
 class Faults:
-    """Runs over a file as `before` has it, or over none. `trees` are the trees before and behind each flush, the last by the end."""
+    """Runs over a file as `before` has it, or over none. `trees` are the trees before and behind each flush, the last by the end, each with the
+    sessions of its clients."""
 
     def __init__(self, program, folder, before=None, flushes=FLUSHES):
         self.program, self.folder, self.before, self.flushes = program, folder, before, flushes
@@ -40,24 +42,30 @@ class Faults:
         self.told = os.path.join(folder, 'calls')
         self.script = [line for lines in flushes[:-1] for line in [*lines, 'flush']] + flushes[-1]
         self.renew()
-        first = tree_of(rows_of(self.path)) if before else {}
+        first = left_in(self.path) if before else {}
         status, self.printed, told = self.run()
         wants((status, told) == (0, ''), f'the run without a fault ends with {status}: {told}')
         self.trees = [first, *self.behind(first)]
         self.calls = self.seen()
-        wants(tree_of(rows_of(self.path)) == self.trees[-1], 'the run without a fault leaves another tree')
+        wants(left_in(self.path) == self.trees[-1], f'the run without a fault leaves another tree: {differences(left_in(self.path), self.trees[-1:])}')
 
     def behind(self, first):
         """The trees behind each flush, by the plain table."""
-        table = Told()
-        table.begin(first)
+        table, sessions = Told(), {at: it for at, it in first.items() if at[0] < 0}
+        table.begin({at: it for at, it in first.items() if at[0] > 0})
         for line, said in zip(self.script, self.printed):
             if line == 'flush':
                 wants(said == 'flushed', f'a flush prints {said}')
-                yield table.tree()
+                yield table.tree() | sessions
+            elif line.startswith('req '):
+                _, _, client, tid, oldest, operation = line.split(' ', 5)
+                table.hear(operation, said)
+                mark, replies = sessions.get((-1, int(client)), (0, {}))
+                mark = max(mark, int(oldest))
+                sessions[-1, int(client)] = mark, {it: reply for it, reply in replies.items() if it >= mark} | {int(tid): answer_of(said)}
             else:
                 table.hear(line, said)
-        yield table.tree()
+        yield table.tree() | sessions
 
     def renew(self):
         """The file as it was before the runs."""
@@ -69,7 +77,7 @@ class Faults:
         """Runs the script with these calls refused."""
         if os.path.exists(self.told):
             os.remove(self.told)
-        return ran(self.program, self.path, self.script, env=self.environment(how, first, last))
+        return ran(self.program, self.path, self.script, '--ask', env=self.environment(how, first, last))
 
     def environment(self, how, first, last):
         return {**os.environ, 'LD_PRELOAD': self.library, 'WATCHED': self.path, 'CALLS_TOLD': self.told, 'REFUSAL': how,
@@ -118,7 +126,7 @@ class Faults:
 
     def is_survived(self, how, k):
         """Kills the program at a call: it leaves the tree of the last flush that was answered, or the one under way."""
-        run, answered = Served(self.program, self.path, env=self.environment(how, k, k)), 0
+        run, answered = Served(self.program, self.path, '--ask', env=self.environment(how, k, k)), 0
         try:
             for lines in self.flushes[:-1]:
                 wants(run.ask([*lines, 'flush'])[-1] == 'flushed', 'a flush is not kept')
@@ -131,14 +139,14 @@ class Faults:
         self.is_left(self.trees[answered:answered + 2], opened=answered > 0)
 
     def is_left(self, allowed, opened=True):
-        """The file has one of these trees, and the next run goes on from it."""
+        """The file has one of these trees with its sessions, and the next run goes on from it."""
         if opened or self.before:
-            tree = tree_of(rows_of(self.path))
+            tree = left_in(self.path)
             wants(tree in allowed, f'the tree is none of those that may be there: {differences(tree, allowed)}')
         printed = went(self.program, self.path, ['create 1 next 644', 'flush'])
         wants(printed[1] == 'flushed', f'the next run prints {printed}')
         wants(log_of(self.path) is None, 'the next run left a log')
-        tree = tree_of(rows_of(self.path))
+        tree = left_in(self.path)
         wants(tree.pop((1, b'next'), None) and tree in allowed, 'the next run saved something else')
 
 
@@ -227,7 +235,7 @@ def planted(program, folder):
             ('words without a status', it.script[:-1], told, 0, full),
             ('words of another flush', it.script, 'flushed unsaved because flushed', 0, '')):
         it.renew()
-        ran(program, it.path, script)
+        ran(program, it.path, script, '--ask')
         said = iter(flushes.replace('unsaved ', 'unsaved_').split())
         printed = [next(said).replace('_', ' ') if line == 'flush' else reply for line, reply in zip(it.script, it.printed)]
         try:
@@ -247,15 +255,16 @@ def started(program, folder, before):
 def with_tree(program, folder):
     """A file with a tree, as a run leaves it that ends."""
     path = os.path.join(folder, 'there')
-    went(program, path, ['mkdir 1 old 755'] + [f'create 1 o{k} 644' for k in range(80)] + ['flush', 'unlink 1 o3', 'dirfrag split 0 1 * 1'])
+    went(program, path, ['mkdir 1 old 755'] + [f'create 1 o{k} 644' for k in range(80)] + ['req 0 7 1 1 lookup 1 o1', 'req 0 2 4 4 lookup 1 o2', 'flush', 'unlink 1 o3',
+                                                                                                 'dirfrag split 0 1 * 1'], '--ask')
     return path
 
 
 def with_log(program, folder):
     """A file with a tree, of which the log has two transactions: its run was killed."""
     path = with_tree(program, folder)
-    run = Served(program, path)
-    for line in ['create 1 x 644', 'flush', 'unlink 1 o7', 'flush', 'create 1 unsaved 644']:
+    run = Served(program, path, '--ask')
+    for line in ['create 1 x 644', 'flush', 'unlink 1 o7', 'req 0 7 2 1 unlink 1 o8', 'flush', 'create 1 unsaved 644', 'req 0 7 3 3 lookup 1 o8']:
         run.say(line)
     run.process.kill()
     run.close()

@@ -45,7 +45,8 @@ class Killed:
         self.program, self.folder, self.seed = program, folder, seed
         self.chance = random.Random(seed)
         self.usual = {'opening': 0.01, 'in a flush': 0.005, 'at its end': 0.005, 'in changes': 0.05}
-        self.files, self.counts, self.ended = 0, {}, 0
+        # the client's numbers go on from run to run, since the file keeps what it was told
+        self.files, self.counts, self.ended, self.tid = 0, {}, 0, 0
         self.renew()
 
     def renew(self):
@@ -60,7 +61,7 @@ class Killed:
         moment, ranks = self.chance.choice(MOMENTS), self.chance.randint(1, 4)
         self.told, self.moment = copy.deepcopy(self.saved), moment
         self.run = Served(self.program, self.path, '--ask', '--ranks', str(ranks))
-        self.told.tid, self.opened = 0, False
+        self.told.tid, self.opened = self.tid, False
         timer = None
         if moment == 'opening':
             timer = self.kill_within(moment)
@@ -76,6 +77,7 @@ class Killed:
             pass
         if timer:
             timer.join()
+        self.tid = self.told.tid
         self.look(*self.run.close())
 
     def kill_within(self, moment):

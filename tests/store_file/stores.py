@@ -35,12 +35,17 @@ def log_of(path):
 def rows_of(path, log=True):
     """The objects with their headers, and the pairs of each with their values, by sqlite3 over a copy: of the file and its log, or of
     the file alone."""
+    return read_by(path, rows_by, log)
+
+
+def read_by(path, reader, log=True):
+    """What a reader finds in a copy of a file and its log, or of the file alone."""
     copy = copied(path, path + '.read')
     if not log and os.path.exists(copy + '-wal'):
         os.remove(copy + '-wal')
     base = sqlite3.connect(copy)
     try:
-        return rows_by(base)
+        return reader(base)
     except sqlite3.DatabaseError as error:
         raise Unsound(f'sqlite3 says {error}') from error
     finally:
