@@ -13,7 +13,7 @@ use Rattle.sessions.specs.Stored.{Stored, mark_or_none, reply_or_none, stand_ins
 use Rattle.sessions.specs.Table.{Table}
 use Rattle.sessions.proofs.AlikeLaws.{answer_alike, stands_for}
 use Rattle.session_rows.specs.Sessions.{SpellsSessions}
-use Rattle.cluster_core.specs.KeptSessions.{Continue, IsSpent, StoredSessionsGoOn, Tells, TellsBut, ToldOfStandIns}
+use Rattle.cluster_core.specs.KeptSessions.{Continue, IsSpent, StoredSessionsGoOn, RowsTell, TellsBut, ToldOfStandIns}
 use Rattle.cluster_core.specs.Opening.{StandIn}
 use Rattle.cluster_core.specs.Resumed.{resumes, supplies_from}
 use Rattle.cluster_core.proofs.OpeningLaws.{numbers_from}
@@ -33,7 +33,7 @@ abbrev pub OneNexts : Type 0
 OneNexts = (rows : SessionRows) (a b : List Stored) (m n : List ℕ) → SpellsSessions rows a m → SpellsSessions rows b n → m ≡ n
 
 module _ (limit : ℕ) (opening : Opening) (history : List Entry) (rows : SessionRows) (stored : List Stored) (nexts : List ℕ) (table : Table)
-    (legal : IsLegalFrom limit opening history) (told : Tells rows opening history)
+    (legal : IsLegalFrom limit opening history) (told : RowsTell rows opening history)
     (spelled : SpellsSessions rows stored nexts) (restored : IsRestored stored table) (content : OneContent) (one_nexts : OneNexts) where
   abbrev tree : Tree
   tree = after_from limit opening history

@@ -7,7 +7,7 @@ use Rattle.keeping.specs.declared.rows.RowEdit.{RowEdit}
 use Rattle.keeping.specs.Rows.{SessionRows, edited}
 use Rattle.sessions.proofs.WrittenLaws.{written}
 use Rattle.session_rows.specs.Sessions.{AreNextInos, with_nexts}
-use Rattle.cluster_core.specs.KeptSessions.{AreNextOf, IsOfRanks, IsSpent, Tells, TellsBut, Updates, WritesAll}
+use Rattle.cluster_core.specs.KeptSessions.{AreNextOf, IsOfRanks, IsSpent, RowsTell, TellsBut, Updates, WritesAll}
 use Rattle.cluster_core.specs.Resumed.{supplies_from}
 use Rattle.cluster_core.specs.State.{KeptState}
 use Rattle.cluster_core.proofs.ResumedLaws.{given_below}

@@ -28,7 +28,7 @@ abbrev pub IsSpent : (nexts : List ℕ) → ℕ → Type 0
 IsSpent nexts n = (n ≡ 1) ⊎ IsGiven (supplies_from 0 nexts) n
 
 -- rows tell what a history keeps of each client, and which numbers it used
-pub record Tells (rows : SessionRows) (opening : Opening) (history : List Entry) : Type 0 where
+pub record RowsTell (rows : SessionRows) (opening : Opening) (history : List Entry) : Type 0 where
   pub stored : List Stored
   pub nexts : List ℕ
   pub spelled : SpellsSessions rows stored nexts
@@ -49,7 +49,7 @@ pub record TellsBut (rows : SessionRows) (opening : Opening) (history : List Ent
 -- from rows that tell all but what changed, edits make rows that tell all
 abbrev pub Updates : KeptState → List RowEdit → Type 0
 Updates book edits = (opening : Opening) (past : List Entry) → StandsBehind opening past book → (rows : SessionRows)
-    → TellsBut rows opening (past ++ book.history) book.core → Tells (edited edits rows) opening (past ++ book.history)
+    → TellsBut rows opening (past ++ book.history) book.core → RowsTell (edited edits rows) opening (past ++ book.history)
 
 -- a book's sessions are kept by edits that a store takes
 pub record KeepsSessions (book : KeptState) (takes : List RowEdit → Type 0) : Type 0 where
@@ -69,7 +69,7 @@ pub record Continue (limit : ℕ) (opening : Opening) (history : List Entry) (ne
 
 -- a book goes on from rows: with the stand-ins of what they store, which continue each history of which the rows tell
 -- all, if the book's tree is the one after it. Then the rows tell all of the stand-ins too
-pub record GoesOnFrom (rows : SessionRows) (book : KeptState) : Type 0 where
+pub record GoesOnFromRows (rows : SessionRows) (book : KeptState) : Type 0 where
   pub stored : List Stored
   pub nexts : List ℕ
   pub spelled : SpellsSessions rows stored nexts
@@ -77,24 +77,24 @@ pub record GoesOnFrom (rows : SessionRows) (book : KeptState) : Type 0 where
   pub continues : (opening : Opening) (history : List Entry)
       → IsLegalFrom book.core.state.tree.limit opening history
       → shown book.core.state ≡ after_from book.core.state.tree.limit opening history
-      → Tells rows opening history → Continue book.core.state.tree.limit opening history
+      → RowsTell rows opening history → Continue book.core.state.tree.limit opening history
       (resumes (shown book.core.state) (stand_ins stored) nexts) (stand_ins stored)
   pub told : (opening : Opening) (history : List Entry) → IsLegalFrom book.core.state.tree.limit opening history
-      → shown book.core.state ≡ after_from book.core.state.tree.limit opening history → Tells rows opening history
+      → shown book.core.state ≡ after_from book.core.state.tree.limit opening history → RowsTell rows opening history
       → TellsBut rows (resumes (shown book.core.state) (stand_ins stored) nexts) (stand_ins stored) book.core
 
 -- rows that tell all of a history, and stored sessions that they spell: the stand-ins of these continue the history
 abbrev pub StoredSessionsGoOn : Type 0
 StoredSessionsGoOn =
     (limit : ℕ) (opening : Opening) (history : List Entry) (rows : SessionRows) (stored : List Stored) (nexts : List ℕ)
-    (table : Table) → IsLegalFrom limit opening history → Tells rows opening history → SpellsSessions rows stored nexts → IsRestored stored table → Continue limit opening history
+    (table : Table) → IsLegalFrom limit opening history → RowsTell rows opening history → SpellsSessions rows stored nexts → IsRestored stored table → Continue limit opening history
     (resumes (after_from limit opening history) (stand_ins stored) nexts) (stand_ins stored)
 
 -- and the rows tell all of the stand-ins, whichever cluster has them
 abbrev pub ToldOfStandIns : Type 0
 ToldOfStandIns =
     (limit : ℕ) (opening : Opening) (history : List Entry) (rows : SessionRows) (stored : List Stored) (nexts : List ℕ)
-    (table : Table) → IsLegalFrom limit opening history → Tells rows opening history → SpellsSessions rows stored nexts
+    (table : Table) → IsLegalFrom limit opening history → RowsTell rows opening history → SpellsSessions rows stored nexts
     → IsRestored stored table → (core : Core)
     → TellsBut rows (resumes (after_from limit opening history) (stand_ins stored) nexts) (stand_ins stored) core
 
@@ -113,7 +113,7 @@ StepsStayTold =
 -- and so once the sessions were kept by rows that tell all
 abbrev pub KeptStaysTold : Type 0
 KeptStaysTold = (rows : SessionRows) (opening : Opening) (past : List Entry) (book : KeptState)
-    → Tells rows opening (past ++ book.history) → TellsBut rows opening (past ++ book.history) (with_stored book).core
+    → RowsTell rows opening (past ++ book.history) → TellsBut rows opening (past ++ book.history) (with_stored book).core
 
 -- the next numbers of the first of these ranks
 pub record AreNextOf (count : ℕ) (numbers : List Supply) (nexts : List ℕ) : Type 0 where

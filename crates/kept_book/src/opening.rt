@@ -4,7 +4,7 @@ ghost use Rattle.keeping.specs.Rows.{SessionRows};
 ghost use Rattle.kept_store.specs.Kept.{StoresRows};
 ghost use Rattle.mdcache.specs.Mounted.{IsColdTree};
 ghost use Rattle.sqlite_trees.specs.View.{IsClean};
-ghost use Rattle.cluster_core.specs.KeptSessions.{GoesOnFrom};
+ghost use Rattle.cluster_core.specs.KeptSessions.{GoesOnFromRows};
 ghost use Rattle.cluster_core.specs.Sound.{IsSoundKept};
 ghost use Rattle.cluster_core.specs.State.{shown};
 ghost use Rattle.kept_book.specs.Opened.{MayNotOpen};
@@ -52,7 +52,7 @@ pub fn open_book<T: Trees + Drop>(
     requires most { cache ≤ 65536 }
     ensures cold { IfOk result (λ book. IsColdTree kept.objects (shown book.core.state)) }
     ensures goes_on { IfOk result (λ book. ((t : T) → IsClean (T.Store.view t)) → (rows : SessionRows)
-        → StoresRows (T.Store.recovers kept.tables) rows → GoesOnFrom rows book) }
+        → StoresRows (T.Store.recovers kept.tables) rows → GoesOnFromRows rows book) }
     ensures sound { IfOk result IsSoundKept }
     ensures refused { IfErr result (λ back. MayNotOpen T.Store.view T.Store.recovers kept back.0) }
     ensures left { IfErr result (λ back. back.1.objects ≡ kept.objects) }

@@ -14,7 +14,7 @@ use Rattle.mds_types.specs.declared.entries.Entry.{Entry}
 use Rattle.sessions.proofs.ReplyLaws.{sorted_entries, sorted_replies}
 use Rattle.sessions.specs.Replies.{kept_replies, replies_at}
 use Rattle.sessions.specs.Table.{IsKeptFor, IsTableOf, Table, kept_in, mark_in, row_in}
-use Rattle.session_rows.specs.Sessions.{told_of}
+use Rattle.session_rows.specs.Sessions.{told_entry}
 
 below : (x y : ℕ) → is_lt (nat_cmp x y) ≡ true → x < y
 below x y = go (nat_cmp x y) (ranks x y)
@@ -34,12 +34,12 @@ starts_behind x [] e = tt
 starts_behind x (r ∷ rs) e =
     let low = below x r.0 (and_parts (is_lt (nat_cmp x r.0)) (below_all nat_cmp x rs) e).0 in omega (arith, low)
 
-ascend_sorted : (least : ℕ) (rs : List (ℕ × Reply)) → is_sorted nat_cmp rs ≡ true → Starts least rs → Ascend least (map told_of rs)
+ascend_sorted : (least : ℕ) (rs : List (ℕ × Reply)) → is_sorted nat_cmp rs ≡ true → Starts least rs → Ascend least (map told_entry rs)
 ascend_sorted least [] e low = tt
 ascend_sorted least (r ∷ rs) e low =
     let both = and_parts (below_all nat_cmp r.0 rs) (is_sorted nat_cmp rs) e in (low, ascend_sorted (r.0 + 1) rs both.1 (starts_behind r.0 rs both.0))
 
-pub kept_ascend : (past history : List Entry) (table : Table) (client : ℕ) → IsTableOf (past ++ history) table → Ascend (mark_in table client) (map told_of (kept_replies history table client))
+pub kept_ascend : (past history : List Entry) (table : Table) (client : ℕ) → IsTableOf (past ++ history) table → Ascend (mark_in table client) (map told_entry (kept_replies history table client))
 kept_ascend past history table client h =
     ascend_sorted (mark_in table client) (kept_replies history table client) (sorted_replies history table.forgotten aside (finmap.entries kept) ∙ sorted_entries kept) (first (finmap.entries kept) refl)
   where

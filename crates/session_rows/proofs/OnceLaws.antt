@@ -17,8 +17,8 @@ use Rattle.session_rows.proofs.Walks.{no_row_spelled, one_row}
 use Rattle.session_rows.specs.ClientRows.{IsNoRow}
 use Rattle.session_rows.specs.Keys.{SpellsRowKey}
 use Rattle.session_rows.specs.RankRows.{ReadsRank, SpellsRank}
-use Rattle.session_rows.specs.Restoring.{IsReadOf, RefusesRows}
-use Rattle.session_rows.specs.Sessions.{IsStorable, IsStoredNext, SpellsSessions, client_value, next_of, rank_value, row_of, told_of}
+use Rattle.session_rows.specs.Restoring.{IsRestoredOf, RefusesRows}
+use Rattle.session_rows.specs.Sessions.{IsStorable, IsStoredNext, SpellsSessions, client_value, next_of, rank_value, row_of, told_entry}
 use Rattle.session_rows.specs.declared.keys.Key.TheVariants.{Client, Rank}
 use Rattle.session_rows.specs.declared.restoring.Restored.{Restored}
 use Rattle.session_rows.specs.declared.rows_faults.RowsFault.{RowsFault}
@@ -26,7 +26,7 @@ use Rattle.session_rows.specs.declared.rows_faults.RowsFault.TheVariants.{Key, C
 
 -- ---- what is stored of a client
 
-untold_again : (rs : List (ℕ × Reply)) → map (λ (t : Told). (t.tid, t.reply)) (map told_of rs) ≡ rs
+untold_again : (rs : List (ℕ × Reply)) → map (λ (t : Told). (t.tid, t.reply)) (map told_entry rs) ≡ rs
 untold_again [] = refl
 untold_again (r ∷ rs) = ap (λ (l : List (ℕ × Reply)). r ∷ l) (untold_again rs)
 
@@ -97,7 +97,7 @@ none_refused one rows stored nexts (DamagedRank rank fault) s r =
     absurd (found_next rank (one rank) (next_of nexts rank) r.value fault (s.ranged rank key.known) (sym (s.ranks rank key.known) ∙ ap (finmap.get rows) (sym key.spelled) ∙ r.found) r.refused.1)
 none_refused one rows stored nexts NoMemory s r = refl
 
-pub still_stored : (history : List Entry) (rows : SessionRows) (stored : List Stored) (nexts : List ℕ) (read : Restored) → SpellsSessions rows stored nexts → IsStoredOf history stored → (r : IsReadOf rows read)
+pub still_stored : (history : List Entry) (rows : SessionRows) (stored : List Stored) (nexts : List ℕ) (read : Restored) → SpellsSessions rows stored nexts → IsStoredOf history stored → (r : IsRestoredOf rows read)
     → IsStoredOf history r.stored
 still_stored history rows stored nexts read s h r =
     let same : (client : ℕ) → stored_of r.stored client ≡ stored_of stored client = one_content rows r.stored stored read.nexts nexts r.spelled s in

@@ -14,8 +14,8 @@ use Rattle.sessions.specs.Stored.{Stored, stored_of}
 use Rattle.session_rows.proofs.SessionSteps.{client_set, rank_set}
 use Rattle.session_rows.specs.Keys.{client_bytes, rank_bytes}
 use Rattle.session_rows.specs.RankRows.{SpellsRank}
-use Rattle.session_rows.specs.Restoring.{MayRead, MayTake, ReadsMore, RefusesRow, TakesRow, stored_from}
-use Rattle.session_rows.specs.Sessions.{SpellsSessions, client_value, next_of, row_of, told_of}
+use Rattle.session_rows.specs.Restoring.{MayRead, MayTake, ReadsMore, RefusesRow, RestoresRow, stored_from}
+use Rattle.session_rows.specs.Sessions.{SpellsSessions, client_value, next_of, row_of, told_entry}
 use Rattle.session_rows.specs.declared.restoring.Restored.{Restored}
 use Rattle.session_rows.specs.declared.rows_faults.RowsFault.TheVariants.{NoMemory}
 
@@ -44,7 +44,7 @@ rank_read old rank value next at low same s rows is =
 
 -- ---- a client
 
-told_again : (xs : List Told) → map told_of (map (λ (t : Told). (t.tid, t.reply)) xs) ≡ xs
+told_again : (xs : List Told) → map told_entry (map (λ (t : Told). (t.tid, t.reply)) xs) ≡ xs
 told_again [] = refl
 told_again (x ∷ xs) = ap (λ (l : List Told). x ∷ l) (told_again xs)
 
@@ -62,7 +62,7 @@ may_take client old fits may = record {
   absent = none_stored (stored_of may.known.stored client) (sym (may.known.spelled.clients client fits) ∙ may.absent);
 }
 
-pub client_read : (client : ℕ) (value : List ℕ) (old : Restored) (new : Held) (row : Row) → client < 2 ^ 64 → MayRead (client_bytes client) old → SpellsRow value row → TakesRow client row (table old.sessions) (table new)
+pub client_read : (client : ℕ) (value : List ℕ) (old : Restored) (new : Held) (row : Row) → client < 2 ^ 64 → MayRead (client_bytes client) old → SpellsRow value row → RestoresRow client row (table old.sessions) (table new)
     → new.changed ≡ old.sessions.changed → ReadsMore (client_bytes client) value old (record { sessions = new; nexts = old.nexts })
 client_read client value old new row fits may s takes changed rows is =
     let m = may_take client old fits may in

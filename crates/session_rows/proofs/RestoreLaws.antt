@@ -19,7 +19,7 @@ use Rattle.sessions.specs.Restored.{IsRestored}
 use Rattle.sessions.specs.Rooms.{Held, table}
 use Rattle.sessions.specs.Table.{no_table}
 use Rattle.session_rows.specs.Keys.{client_bytes, rank_bytes}
-use Rattle.session_rows.specs.Restoring.{IsReadOf, MayRead, ReadsMore, RefusesRow, RefusesRows, RestoresRows}
+use Rattle.session_rows.specs.Restoring.{IsRestoredOf, MayRead, ReadsMore, RefusesRow, RefusesRows, RestoresRows}
 use Rattle.session_rows.specs.Sessions.{SpellsSessions, rank_value}
 use Rattle.session_rows.specs.declared.restoring.Restored.{Restored}
 use Rattle.session_rows.specs.declared.rows_faults.RowsFault.{RowsFault}
@@ -67,7 +67,7 @@ all_fresh (e ∷ es) = (get-empty key_cmp e.0, all_fresh es)
 
 pub record IsReadSoFar (rows : SessionRows) (read : Restored) (rest : List Pair) : Type 0 where
   pub so : SessionRows
-  pub known : IsReadOf so read
+  pub known : IsRestoredOf so read
   pub whole : with_pairs so rest ≡ rows
   pub sorted : T (is_sorted key_cmp rest)
   pub fresh : AreFresh so rest
@@ -134,8 +134,8 @@ module _ (rows : SessionRows) (read : Restored) (rest after : List Pair) (key va
     refused = why;
   }
 
-pub read_all : (rows : SessionRows) (read : Restored) (rest : List Pair) → rest ≡ [] → IsReadSoFar rows read rest → IsReadOf rows read
-read_all rows read rest e is = subst (λ (r : SessionRows). IsReadOf r read) (ap (with_pairs is.so) (sym e) ∙ is.whole) is.known
+pub read_all : (rows : SessionRows) (read : Restored) (rest : List Pair) → rest ≡ [] → IsReadSoFar rows read rest → IsRestoredOf rows read
+read_all rows read rest e is = subst (λ (r : SessionRows). IsRestoredOf r read) (ap (with_pairs is.so) (sym e) ∙ is.whole) is.known
 
 pub refused_all : (rows : SessionRows) (r : Result Restored RowsFault) (fault : RowsFault) → IsErrAnd r (λ f. f ≡ fault) → RefusesRows rows fault → RestoresRows rows r
 refused_all rows (Ok read) fault is why = absurd is

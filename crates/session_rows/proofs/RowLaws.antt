@@ -1,5 +1,5 @@
 -- A row that gets a reply more, as it is written and as it is read.
-use Rattle.session_rows.proofs.Common.{AllByRecursion, Ascend, BelowMark, Err, IfErr, IsErrAnd, IsRow, IsTold, IsTrue, IsNotRead, Length, List, MayKeep, NoMemory, NoReply, Ok, OnOk, OtherRange, OutOfOrder, ReadsRow, ReadsTold, Result, Row, RowFault, Some, SpellsRow, Told, [], ap, append_assoc, arith, cond, counted_bytes, flat_map_more, inr, is_ok, length, length-append, little_bytes, ltb, next_from, next_number, nat_tests, none-some, reply_bytes, row_bytes, same_Some, slice_get, subst, suc, sym, told_bytes, with_told, ℕ, ◌++◌, ◌+◌, ◌-◌, ◌<◌, ◌∙◌, ◌∷◌, ◌≡◌, ◌≤◌}
+use Rattle.session_rows.proofs.Common.{AllByRecursion, Ascend, BelowMark, Err, IfErr, IsErrAnd, IsRow, IsTold, IsTrue, IsNotRead, Length, List, MayKeep, NoMemory, NoReply, Ok, OnOk, OtherRange, OutOfOrder, ReadsRow, ReadsTold, Result, Row, RowFault, Some, SpellsRow, Told, [], ap, append_assoc, arith, cond, counted_bytes, flat_map_more, inr, is_ok, length, length-append, little_bytes, ltb, next_from, next_number, nat_tests, none-some, reply_bytes, row_bytes, same_Some, slice_get, subst, suc, sym, told_bytes, with_next_told, ℕ, ◌++◌, ◌+◌, ◌-◌, ◌<◌, ◌∙◌, ◌∷◌, ◌≡◌, ◌≤◌}
 
 ascend_more : (least : ℕ) (xs : List Told) (told : Told) → Ascend least xs → next_from least xs ≤ told.tid → Ascend least (xs ++ told ∷ [])
 ascend_more least [] told up after = (after, tt)
@@ -9,21 +9,21 @@ all_more : (xs : List Told) (told : Told) → AllByRecursion IsTold xs → IsTol
 all_more [] told all known = (known, tt)
 all_more (x ∷ xs) told (first, all) known = (first, all_more xs told all known)
 
-row_more : (row : Row) (told : Told) → IsRow row → IsTold told → next_number row ≤ told.tid → IsRow (with_told row told)
+row_more : (row : Row) (told : Told) → IsRow row → IsTold told → next_number row ≤ told.tid → IsRow (with_next_told row told)
 row_more row told is known after =
     record { mark = is.mark; told = all_more row.replies told is.told known; ascend = ascend_more row.mark row.replies told is.ascend after }
 
-bytes_more : (row : Row) (told : Told) → row_bytes row ++ told_bytes told ≡ row_bytes (with_told row told)
+bytes_more : (row : Row) (told : Told) → row_bytes row ++ told_bytes told ≡ row_bytes (with_next_told row told)
 bytes_more row told = flat_map_more told_bytes (little_bytes 8 row.mark) row.replies told
 
-pub spelled_more : (bytes : List ℕ) (row : Row) (told : Told) → IsTold told → SpellsRow bytes row → next_number row ≤ told.tid → SpellsRow (bytes ++ told_bytes told) (with_told row told)
+pub spelled_more : (bytes : List ℕ) (row : Row) (told : Told) → IsTold told → SpellsRow bytes row → next_number row ≤ told.tid → SpellsRow (bytes ++ told_bytes told) (with_next_told row told)
 spelled_more bytes row told known s after =
     record { known = row_more row told s.known known after; spelled = ap (λ (t : List ℕ). t ++ told_bytes told) s.spelled ∙ bytes_more row told }
 
 -- what was appended
 pub pushed : {A E : Type 0} (r : Result A E) (new old text : List ℕ) (told : Told) → new ≡ cond (is_ok r) (old ++ text) old → text ≡ told_bytes told → IsTold told
-    → OnOk r ((row : Row) → SpellsRow old row → next_number row ≤ told.tid → SpellsRow new (with_told row told))
-pushed (Ok x) new old text told e is known = λ row s after. subst (λ (t : List ℕ). SpellsRow t (with_told row told)) (sym (e ∙ ap (λ (t : List ℕ). old ++ t) is)) (spelled_more old row told known s after)
+    → OnOk r ((row : Row) → SpellsRow old row → next_number row ≤ told.tid → SpellsRow new (with_next_told row told))
+pushed (Ok x) new old text told e is known = λ row s after. subst (λ (t : List ℕ). SpellsRow t (with_next_told row told)) (sym (e ∙ ap (λ (t : List ℕ). old ++ t) is)) (spelled_more old row told known s after)
 pushed (Err x) new old text told e is known = tt
 
 -- ---- a row that is read

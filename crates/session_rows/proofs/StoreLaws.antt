@@ -17,7 +17,7 @@ use Rattle.sessions.specs.Table.{Row as SessionRow, Table}
 use Rattle.session_rows.proofs.SessionSteps.{client_set, rank_set}
 use Rattle.session_rows.specs.Keys.{client_bytes, rank_bytes}
 use Rattle.session_rows.specs.RankRows.{IsNextIno}
-use Rattle.session_rows.specs.Sessions.{AreNextInos, IsStorable, SpellsSessions, WritesClients, WritesSessions, client_value, kept_of, next_of, with_nexts}
+use Rattle.session_rows.specs.Sessions.{AreNextInos, IsStorable, SpellsSessions, WritesClients, WritesSessions, client_value, kept_row, next_of, with_nexts}
 
 -- ---- what is stored of a client, written anew
 
@@ -56,7 +56,7 @@ got_stored : (found : Option Stored) (client : ℕ) (ss : List Stored) (q : ℕ)
 got_stored None client ss q of = got_without client ss q
 got_stored (Some s) client ss q of = ap (λ (b : Bool). cond b (Some s) (stored_of ss q)) (ap (λ (c : ℕ). c == q) of ∙ nat_eq_equiv.symm client q)
 
-kept_is_of : (history : List Entry) (table : Table) (client : ℕ) → IsOf client (kept_of history table client)
+kept_is_of : (history : List Entry) (table : Table) (client : ℕ) → IsOf client (kept_row history table client)
 kept_is_of history table client = go (finmap.get table.rows client)
   where
     go : (o : Option SessionRow) → IsOf client (option_map (λ _. row_stored history table client) o)
@@ -73,26 +73,26 @@ pub no_edits : (history : List Entry) (table : Table) → WritesSessions history
 no_edits history table rows stored before is = record { new = stored; spelled = is; anew = λ q. refl }
 
 pub one_client : (history : List Entry) (table : Table) (changed : List ℕ) (edits : List RowEdit) (client : ℕ) (edit : RowEdit) → client < 2 ^ 64 → edit.key ≡ client_bytes client
-    → edit.value ≡ client_value (kept_of history table client) → IsStorable client (kept_of history table client) → WritesSessions history table changed [] edits
+    → edit.value ≡ client_value (kept_row history table client) → IsStorable client (kept_row history table client) → WritesSessions history table changed [] edits
     → WritesSessions history table (changed ++ client ∷ []) [] (edits ++ edit ∷ [])
 one_client history table changed edits client edit fits key value can writes rows stored before is =
     let w : WritesClients history table changed stored (edited edits rows) before = writes rows stored before is in
-    let found = kept_of history table client in
+    let found = kept_row history table client in
     let new = with_stored found client w.new in
     let got : (q : ℕ) → stored_of new q ≡ cond (q == client) found (stored_of w.new q) = λ q. got_stored found client w.new q (kept_is_of history table client) in
     let spelled = client_set (edited edits rows) w.new new before client found w.spelled fits can got in
     record {
       new = new;
       spelled = subst (λ (r : SessionRows). SpellsSessions r new before) (sym (edited_more edits edit rows ∙ (λ i. with_value (value i) (key i) (edited edits rows)))) spelled;
-      anew = λ q. got q ∙ ap (cond (q == client) found) (w.anew q) ∙ anew_by q (q == client) refl (is_among changed q) refl ∙ ap (λ (b : Bool). cond b (kept_of history table q) (stored_of stored q)) (sym (among_more changed client q));
+      anew = λ q. got q ∙ ap (cond (q == client) found) (w.anew q) ∙ anew_by q (q == client) refl (is_among changed q) refl ∙ ap (λ (b : Bool). cond b (kept_row history table q) (stored_of stored q)) (sym (among_more changed client q));
     }
   where
     anew_by : (q : ℕ) (b : Bool) → (q == client) ≡ b → (c : Bool) → is_among changed q ≡ c
-        → cond b (kept_of history table client) (cond c (kept_of history table q) (stored_of stored q)) ≡ cond (c || (client == q)) (kept_of history table q) (stored_of stored q)
-    anew_by q true e true f = ap (kept_of history table) (sym (eqb-true q client e))
-    anew_by q true e false f = ap (kept_of history table) (sym (eqb-true q client e)) ∙ ap (λ (b : Bool). cond b (kept_of history table q) (stored_of stored q)) (sym (nat_eq_equiv.symm client q ∙ e))
+        → cond b (kept_row history table client) (cond c (kept_row history table q) (stored_of stored q)) ≡ cond (c || (client == q)) (kept_row history table q) (stored_of stored q)
+    anew_by q true e true f = ap (kept_row history table) (sym (eqb-true q client e))
+    anew_by q true e false f = ap (kept_row history table) (sym (eqb-true q client e)) ∙ ap (λ (b : Bool). cond b (kept_row history table q) (stored_of stored q)) (sym (nat_eq_equiv.symm client q ∙ e))
     anew_by q false e true f = refl
-    anew_by q false e false f = ap (λ (b : Bool). cond b (kept_of history table q) (stored_of stored q)) (sym (nat_eq_equiv.symm client q ∙ e))
+    anew_by q false e false f = ap (λ (b : Bool). cond b (kept_row history table q) (stored_of stored q)) (sym (nat_eq_equiv.symm client q ∙ e))
 
 -- ---- next numbers
 
@@ -154,7 +154,7 @@ one_rank history table changed nexts i edits rank next edit are low at its key v
 
 -- one client more of a list
 pub next_client : (history : List Entry) (table : Table) (items changed : List ℕ) (i : ℕ) (edits new : List RowEdit) (edit : RowEdit) → items ≡ changed → i < length items → get_or items i 0 < 2 ^ 64
-    → edit.key ≡ client_bytes (get_or items i 0) → edit.value ≡ client_value (kept_of history table (get_or items i 0)) → IsStorable (get_or items i 0) (kept_of history table (get_or items i 0))
+    → edit.key ≡ client_bytes (get_or items i 0) → edit.value ≡ client_value (kept_row history table (get_or items i 0)) → IsStorable (get_or items i 0) (kept_row history table (get_or items i 0))
     → new ≡ edits ++ edit ∷ [] → WritesSessions history table (take i changed) [] edits → WritesSessions history table (take (i + 1) changed) [] new
 next_client history table items changed i edits new edit same low fits key value can e writes =
     let Q : List ℕ → Type 0 = λ l. WritesSessions history table (take (i + 1) l) [] new in

@@ -9,7 +9,7 @@ use Rattle.sessions.proofs.StoredLaws.{none_of, stored_with}
 use Rattle.sessions.specs.Restored.{IsRestored, TakesClient, TakesReply}
 use Rattle.sessions.specs.Stored.{Stored, mark_or_none, of_mark, reply_in, reply_or_none, stored_of, with_reply}
 use Rattle.sessions.specs.Table.{Table, kept_in, mark_in}
-use Rattle.session_rows.specs.Restoring.{MayTake, TakesRow, stored_from}
+use Rattle.session_rows.specs.Restoring.{MayTake, RestoresRow, stored_from}
 
 abbrev untold : Told → ℕ × Reply
 untold t = (t.tid, t.reply)
@@ -46,7 +46,7 @@ begun row done = record { mark = row.mark; replies = done }
 pub record IsTaken (client : ℕ) (row : Row) (old now : Table) (rest : List Told) : Type 0 where
   pub done : List Told
   pub whole : done ++ rest ≡ row.replies
-  pub takes : TakesRow client (begun row done) old now
+  pub takes : RestoresRow client (begun row done) old now
 
 pub take_none : (client : ℕ) (row : Row) (old now : Table) (rest : List Told) → TakesClient old now client row.mark → rest ≡ row.replies → IsTaken client row old now rest
 take_none client row old now rest t e = record {
@@ -93,7 +93,7 @@ module _ (client : ℕ) (row : Row) (old now : Table) (rest after : List Told) (
         (subst (IsRestored (stored ++ with_reply s told.tid told.reply ∷ [])) (sym t.table) (restored_reply stored s now told.tid told.reply (so.takes stored known) t.marked t.absent));
   }
 
-pub take_all : (client : ℕ) (row : Row) (old now : Table) (rest : List Told) → rest ≡ [] → IsTaken client row old now rest → TakesRow client row old now
+pub take_all : (client : ℕ) (row : Row) (old now : Table) (rest : List Told) → rest ≡ [] → IsTaken client row old now rest → RestoresRow client row old now
 take_all client row old now rest e so =
     let whole : so.done ≡ row.replies = sym (append-nil so.done) ∙ ap (λ (r : List Told). so.done ++ r) (sym e) ∙ so.whole in
-    subst (λ (d : List Told). TakesRow client (begun row d) old now) whole so.takes
+    subst (λ (d : List Told). RestoresRow client (begun row d) old now) whole so.takes

@@ -57,8 +57,8 @@ abbrev pub no_replies : ℕ → Row
 no_replies mark = record { mark = mark; replies = [] }
 
 -- the row with a reply more
-abbrev pub with_told : Row → Told → Row
-with_told row told = record row { replies = row.replies ++ told ∷ [] }
+abbrev pub with_next_told : Row → Told → Row
+with_next_told row told = record row { replies = row.replies ++ told ∷ [] }
 
 -- the least transaction number that may follow these, which ascend from a least one on
 abbrev pub next_from : ℕ → List Told → ℕ
@@ -136,7 +136,7 @@ pub record ReadsTold (row : Row) (bytes : List ℕ) (new : Row) (rest : List ℕ
   pub told : Told
   pub known : IsTold told
   pub ascends : next_number row ≤ told.tid
-  pub read : new ≡ with_told row told
+  pub read : new ≡ with_next_told row told
   pub parts : bytes ≡ told_bytes told ++ rest
 
 -- why no further reply is read of bytes

@@ -18,11 +18,11 @@ key_bytes (Client client) = client_bytes client
 key_bytes (Rank rank) = rank_bytes rank
 
 -- whether a row has the key: a client's number has 64 bits, and there are 16 ranks
-abbrev pub IsKey : Key → Type 0
-IsKey (Client client) = client < 2 ^ 64
-IsKey (Rank rank) = rank.0 < 16
+abbrev pub IsRowKey : Key → Type 0
+IsRowKey (Client client) = client < 2 ^ 64
+IsRowKey (Rank rank) = rank.0 < 16
 
 -- the grammar of keys
 pub record SpellsRowKey (bytes : List ℕ) (key : Key) : Type 0 where
-  pub known : IsKey key
+  pub known : IsRowKey key
   pub spelled : bytes ≡ key_bytes key

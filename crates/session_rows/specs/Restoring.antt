@@ -16,15 +16,15 @@ use Rattle.session_rows.specs.declared.rows_faults.RowsFault.{RowsFault}
 use Rattle.session_rows.specs.declared.rows_faults.RowsFault.TheVariants.{Key, Client as DamagedClient, Rank as DamagedRank, NoMemory}
 
 -- a value of a client for which memory may be wanting: to read its replies, or to take over the row that it spells
-abbrev pub TakesMemory : (value : List ℕ) → Type 0
-TakesMemory value = WantsMemory value ⊎ ((row : Row) × SpellsRow value row)
+abbrev pub NeedsMemory : (value : List ℕ) → Type 0
+NeedsMemory value = WantsMemory value ⊎ ((row : Row) × SpellsRow value row)
 
 -- why a row is refused: its key is no key, or its value no value of that key, or memory is wanting for a client
 abbrev pub RefusesRow : (key value : List ℕ) → RowsFault → Type 0
 RefusesRow key value Key = IsNoKey key
 RefusesRow key value (DamagedClient client fault) = SpellsRowKey key (Client client) × IsNoRow value fault
 RefusesRow key value (DamagedRank rank fault) = SpellsRowKey key (Rank rank) × ReadsRank rank value (Err fault)
-RefusesRow key value NoMemory = (client : ℕ) × SpellsRowKey key (Client client) × TakesMemory value
+RefusesRow key value NoMemory = (client : ℕ) × SpellsRowKey key (Client client) × NeedsMemory value
 
 -- why rows are refused: a row of them is
 pub record RefusesRows (rows : SessionRows) (fault : RowsFault) : Type 0 where
@@ -34,7 +34,7 @@ pub record RefusesRows (rows : SessionRows) (fault : RowsFault) : Type 0 where
   pub refused : RefusesRow key value fault
 
 -- these are the rows of the restored sessions and next numbers; no client counts as changed
-pub record IsReadOf (rows : SessionRows) (read : Restored) : Type 0 where
+pub record IsRestoredOf (rows : SessionRows) (read : Restored) : Type 0 where
   pub stored : List Stored
   pub spelled : SpellsSessions rows stored read.nexts
   pub restored : IsRestored stored (table read.sessions)
@@ -42,7 +42,7 @@ pub record IsReadOf (rows : SessionRows) (read : Restored) : Type 0 where
 
 -- the answer of `restore`: the sessions and next numbers of these rows, or why the rows are refused
 abbrev pub RestoresRows : SessionRows → Result Restored RowsFault → Type 0
-RestoresRows rows (Ok read) = IsReadOf rows read
+RestoresRows rows (Ok read) = IsRestoredOf rows read
 RestoresRows rows (Err fault) = RefusesRows rows fault
 
 -- ---- words of the crate's own contracts
@@ -50,12 +50,12 @@ RestoresRows rows (Err fault) = RefusesRows rows fault
 -- a row of this key may be read next: no row of the key was read before
 pub record MayRead (key : List ℕ) (read : Restored) : Type 0 where
   pub rows : SessionRows
-  pub known : IsReadOf rows read
+  pub known : IsRestoredOf rows read
   pub absent : finmap.get rows key ≡ None
 
 -- a row more was read
 abbrev pub ReadsMore : (key value : List ℕ) → (old new : Restored) → Type 0
-ReadsMore key value old new = (rows : SessionRows) → IsReadOf rows old → IsReadOf (finmap.insert rows key value) new
+ReadsMore key value old new = (rows : SessionRows) → IsRestoredOf rows old → IsRestoredOf (finmap.insert rows key value) new
 
 -- a client may be taken over: it isn't among the clients that were taken over before
 pub record MayTake (client : ℕ) (now : Table) : Type 0 where
@@ -69,6 +69,6 @@ stored_from client row =
     record { client = client; mark = row.mark; replies = map (λ t. (t.tid, t.reply)) row.replies }
 
 -- a client was taken over, with its replies
-abbrev pub TakesRow : (client : ℕ) → Row → (old new : Table) → Type 0
-TakesRow client row old new = (stored : List Stored) → IsRestored stored old
+abbrev pub RestoresRow : (client : ℕ) → Row → (old new : Table) → Type 0
+RestoresRow client row old new = (stored : List Stored) → IsRestored stored old
     → IsRestored (stored ++ stored_from client row ∷ []) new

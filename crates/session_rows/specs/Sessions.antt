@@ -19,12 +19,12 @@ use Rattle.session_rows.specs.declared.told.Told.{Told}
 -- ---- rows
 
 -- a reply as a client's row keeps it
-abbrev pub told_of : ℕ × Reply → Told
-told_of reply = record { tid = reply.0; reply = reply.1 }
+abbrev pub told_entry : ℕ × Reply → Told
+told_entry reply = record { tid = reply.0; reply = reply.1 }
 
 -- the row of a client as it is stored
 abbrev pub row_of : Stored → Row
-row_of stored = record { mark = stored.mark; replies = map told_of stored.replies }
+row_of stored = record { mark = stored.mark; replies = map told_entry stored.replies }
 
 -- the value of a client's row; none, where the client isn't stored
 abbrev pub client_value : Option Stored → Option (List ℕ)
@@ -67,8 +67,8 @@ pub record SpellsSessions (rows : SessionRows) (stored : List Stored) (nexts : L
 -- ---- edits
 
 -- a client's session as it is stored; none, where the client isn't there
-abbrev pub kept_of : List Entry → Table → (client : ℕ) → Option Stored
-kept_of history table client = option_map (λ _. row_stored history table client) (finmap.get table.rows client)
+abbrev pub kept_row : List Entry → Table → (client : ℕ) → Option Stored
+kept_row history table client = option_map (λ _. row_stored history table client) (finmap.get table.rows client)
 
 -- next numbers of the first ranks: each is a number of its rank's range or the end of that range
 pub record AreNextInos (nexts : List ℕ) : Type 0 where

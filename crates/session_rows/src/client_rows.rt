@@ -2,7 +2,7 @@
 ghost use Rattle.std.specs.Prelude.{◌≡◌, ◌<◌, ◌≤◌, ◌↔◌, IfOk, IfErr, IsTrue, OnOk};
 ghost use Rattle.dirfrag_codec.specs.Reading.{Gives};
 ghost use Rattle.reply_codec.specs.Reading.{counted_at};
-ghost use Rattle.session_rows.specs.ClientRows.{IsNotRead, ReadsRow, ReadsTold, next_number, told_at, with_told};
+ghost use Rattle.session_rows.specs.ClientRows.{IsNotRead, ReadsRow, ReadsTold, next_number, told_at, with_next_told};
 
 use crate::faults::RowFault;
 use crate::told::Told;
@@ -82,7 +82,7 @@ impl ClientRow {
 
     // Adds a reply.
     fn keep(&mut self, told: Told) -> Result<(), AllocError>
-        ensures { OnOk result (self.new ≡ with_told self.old told) }
+        ensures { OnOk result (self.new ≡ with_next_told self.old told) }
     {
         self.replies.push(told)?;
         Ok(())

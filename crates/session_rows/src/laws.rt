@@ -18,7 +18,7 @@ ghost use Rattle.session_rows.specs.declared.rows_faults.RowsFault.TheVariants.{
 ghost use Rattle.session_rows.specs.ClientRows.{IsNoRow, ReadsRow, Row, SpellsRow};
 ghost use Rattle.session_rows.specs.Keys.{SpellsRowKey, client_bytes};
 ghost use Rattle.session_rows.specs.RankRows.{ReadsRank, SpellsRank};
-ghost use Rattle.session_rows.specs.Restoring.{IsReadOf, RefusesRows};
+ghost use Rattle.session_rows.specs.Restoring.{IsRestoredOf, RefusesRows};
 ghost use Rattle.session_rows.specs.Sessions.{SpellsSessions};
 
 /// A key names at most one thing, and what it names has one key. The keys of clients are in the order of their numbers.
@@ -61,6 +61,6 @@ pub fn sessions_are_spelled_once()
     ensures again { (rows : SessionRows) (stored : List Stored) (nexts : List ℕ) (fault : RowsFault)
         → SpellsSessions rows stored nexts → RefusesRows rows fault → fault ≡ OutOfMemory }
     ensures history { (history : List Applied) (rows : SessionRows) (stored : List Stored) (nexts : List ℕ)
-        (read : Restored) → SpellsSessions rows stored nexts → IsStoredOf history stored → (r : IsReadOf rows read)
+        (read : Restored) → SpellsSessions rows stored nexts → IsStoredOf history stored → (r : IsRestoredOf rows read)
         → IsStoredOf history r.stored }
 {}

@@ -6,7 +6,7 @@ ghost use Rattle.sessions.specs.Rooms.{table};
 ghost use Rattle.sessions.specs.Table.{kept_in, mark_in};
 ghost use Rattle.session_rows.specs.ClientRows.{IsRow, SpellsRow};
 ghost use Rattle.session_rows.specs.Keys.{client_bytes, rank_bytes};
-ghost use Rattle.session_rows.specs.Restoring.{MayRead, MayTake, ReadsMore, RefusesRow, RestoresRows, TakesRow};
+ghost use Rattle.session_rows.specs.Restoring.{MayRead, MayTake, ReadsMore, RefusesRow, RestoresRows, RestoresRow};
 
 use crate::client_rows::{ClientRow, decode_client};
 use crate::faults::RowFault;
@@ -105,7 +105,7 @@ fn take_row(
 ) -> Result<(), AllocError>
     requires absent { MayTake client (table sessions.old) }
     requires known { IsRow row }
-    ensures taken { OnOk result (TakesRow client row (table sessions.old) (table sessions.new)) }
+    ensures taken { OnOk result (RestoresRow client row (table sessions.old) (table sessions.new)) }
     ensures changed { sessions.new.changed ≡ sessions.old.changed }
 {
     take_client(sessions, alloc, client, row.mark())?;

@@ -7,7 +7,7 @@ ghost use Rattle.sessions.specs.Rooms.{table};
 ghost use Rattle.sessions.specs.Table.{IsTableOf};
 ghost use Rattle.session_rows.specs.ClientRows.{Ascend, SpellsRow};
 ghost use Rattle.session_rows.specs.Keys.{client_bytes, rank_bytes};
-ghost use Rattle.session_rows.specs.Sessions.{AreNextInos, IsStorable, WritesSessions, client_value, kept_of, told_of};
+ghost use Rattle.session_rows.specs.Sessions.{AreNextInos, IsStorable, WritesSessions, client_value, kept_row, told_entry};
 
 use crate::keys::{client_key, rank_key};
 use crate::rank_rows::encode_rank;
@@ -68,8 +68,8 @@ fn client_edit(
         × AreSetAside past history.now (table sessions.now) }
     ensures key { IfOk result (λ edit. edit.key ≡ client_bytes client) }
     ensures value { IfOk result
-        (λ edit. edit.value ≡ client_value (kept_of history.now (table sessions.now) client)) }
-    ensures storable { IfOk result (λ _. IsStorable client (kept_of history.now (table sessions.now) client)) }
+        (λ edit. edit.value ≡ client_value (kept_row history.now (table sessions.now) client)) }
+    ensures storable { IfOk result (λ _. IsStorable client (kept_row history.now (table sessions.now) client)) }
 {
     let value = match sessions.kept(history, client) {
         Some(kept) => Some(row_value(alloc, kept)?),
@@ -81,9 +81,9 @@ fn client_edit(
 
 // The value of the row of a client with this mark and these replies.
 fn row_value(alloc: Global, kept: ClientKept<'_>) -> Result<Bytes, AllocError>
-    requires { Ascend kept.mark (map told_of kept.replies) }
+    requires { Ascend kept.mark (map told_entry kept.replies) }
     ensures { IfOk result
-        (λ value. SpellsRow value (record { mark = kept.entry.mark; replies = map told_of kept.entry.replies })) }
+        (λ value. SpellsRow value (record { mark = kept.entry.mark; replies = map told_entry kept.entry.replies })) }
 {
     let mut row = RowWriter::new(alloc, kept.mark)?;
     for (tid, reply) in kept.replies {
