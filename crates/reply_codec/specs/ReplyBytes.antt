@@ -29,13 +29,13 @@ abbrev pub IsListed : List ℕ × Inode → Type 0
 IsListed entry = IsName entry.0 × IsInode entry.1
 
 -- the names of a listing with their inodes, fewer than 2 ^ 64
-abbrev pub AreEntries : List (List ℕ × Inode) → Type 0
-AreEntries list = (length list < 2 ^ 64) × AllByRecursion IsListed list
+abbrev pub AreListedEntries : List (List ℕ × Inode) → Type 0
+AreListedEntries list = (length list < 2 ^ 64) × AllByRecursion IsListed list
 
 -- a reply
 abbrev pub IsReply : Reply → Type 0
 IsReply (Entry inode) = IsInode inode
-IsReply (Entries list more) = AreEntries list
+IsReply (Entries list more) = AreListedEntries list
 IsReply (Target target) = IsTarget target
 IsReply Done = Unit {0}
 IsReply (Errno number) = number < 2 ^ 16

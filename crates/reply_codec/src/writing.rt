@@ -4,7 +4,7 @@ ghost use Rattle.std.specs.List.{flat_map, AllByRecursion};
 ghost use Rattle.byteorder.specs.Endian.{little_bytes};
 ghost use Rattle.mds_types.specs.Name.{IsTarget};
 ghost use Rattle.dirfrag_codec.specs.EntryRecord.{HasTarget, kind_byte, target_of};
-ghost use Rattle.reply_codec.specs.ReplyBytes.{AreEntries, HasRank, IsInode, IsListed, IsReply, SpellsReply, counted_bytes, listed_bytes, listing_bytes, pin_number, plain_bytes, reply_bytes};
+ghost use Rattle.reply_codec.specs.ReplyBytes.{AreListedEntries, HasRank, IsInode, IsListed, IsReply, SpellsReply, counted_bytes, listed_bytes, listing_bytes, pin_number, plain_bytes, reply_bytes};
 
 use dirfrag_codec::fields::{put_u16, put_u32, put_u64};
 use dirfrag_codec::has_widths;
@@ -61,7 +61,7 @@ fn put_entry(out: &mut Vec<u8>, inode: &Inode) -> Result<(), AllocError>
 
 // Appends the reply that is a listing.
 fn put_entries(out: &mut Vec<u8>, list: &[(Name, Inode)], more: bool) -> Result<(), AllocError>
-    ensures { OnOk result (AreEntries list.now × (out.new.items ≡ out.old.items ++ 2 ∷ listing_bytes list.now more)) }
+    ensures { OnOk result (AreListedEntries list.now × (out.new.items ≡ out.old.items ++ 2 ∷ listing_bytes list.now more)) }
 {
     out.extend_from_slice(&[ENTRIES, u8::from(more)])?;
     put_u64(out, list.len() as u64)?;

@@ -16,15 +16,15 @@ use Rattle.session_rows.specs.declared.rows_faults.RowsFault.{RowsFault}
 use Rattle.session_rows.specs.declared.rows_faults.RowsFault.TheVariants.{Key, Client as DamagedClient, Rank as DamagedRank, NoMemory}
 
 -- a value of a client for which memory may be wanting: to read its replies, or to take over the row that it spells
-abbrev pub NeedsMemory : (value : List ℕ) → Type 0
-NeedsMemory value = WantsMemory value ⊎ ((row : Row) × SpellsRow value row)
+abbrev pub RowTakesMemory : (value : List ℕ) → Type 0
+RowTakesMemory value = WantsMemory value ⊎ ((row : Row) × SpellsRow value row)
 
 -- why a row is refused: its key is no key, or its value no value of that key, or memory is wanting for a client
 abbrev pub RefusesRow : (key value : List ℕ) → RowsFault → Type 0
 RefusesRow key value Key = IsNoKey key
 RefusesRow key value (DamagedClient client fault) = SpellsRowKey key (Client client) × IsNoRow value fault
 RefusesRow key value (DamagedRank rank fault) = SpellsRowKey key (Rank rank) × ReadsRank rank value (Err fault)
-RefusesRow key value NoMemory = (client : ℕ) × SpellsRowKey key (Client client) × NeedsMemory value
+RefusesRow key value NoMemory = (client : ℕ) × SpellsRowKey key (Client client) × RowTakesMemory value
 
 -- why rows are refused: a row of them is
 pub record RefusesRows (rows : SessionRows) (fault : RowsFault) : Type 0 where
