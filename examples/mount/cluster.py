@@ -203,7 +203,12 @@ class Cluster:
         """Repeats a request, which has to be answered as it was: what it made has to be given the same number, and so by the same rank."""
         if it.operation.split()[0] in MAKES:
             self.hand_over(it.operation.split()[1], (int(it.answer[1], 16) >> RANK_BITS) - 1)
-        words = self.answered(it.tid, it.oldest, it.rank, it.operation).split()
+        try:
+            words = self.answered(it.tid, it.oldest, it.rank, it.operation).split()
+        except OSError as error:
+            if error is self.fault:
+                raise
+            self.breaks(f'{it.operation}: repeated, it comes to: {error.strerror}')
         if words[0] != 'reply' or words[5:] != it.answer:
             self.breaks(f'{it.operation}: repeated, it is answered {" ".join(words)}, and was answered {" ".join(it.answer)}')
         self.note(it.operation.split(), it.answer)

@@ -71,20 +71,24 @@ def killed(given):
 
 @contextlib.contextmanager
 def killing(mount, rand):
-    """Kills the program again and again meanwhile; gives the list of the processes that were killed."""
+    """Kills the program again and again meanwhile, each second time when another one goes on, since a mount gives up behind many in a row; gives the list
+    of the processes that were killed."""
     killed, ends = [], threading.Event()
 
     def kill():
         while not ends.wait(rand.uniform(0, 0.15)):
+            starts = len(mount.repeated())
             if rand.random() < 0.5:
                 killed.append(mount.kill_program())
-                continue
-            # in the middle of a flush, or just behind it
-            flushing = threading.Thread(target=try_to_flush, args=[mount.path])
-            flushing.start()
-            time.sleep(rand.uniform(0, 0.01))
-            killed.append(mount.kill_program())
-            flushing.join()
+            else:
+                # in the middle of a flush, or just behind it
+                flushing = threading.Thread(target=try_to_flush, args=[mount.path])
+                flushing.start()
+                time.sleep(rand.uniform(0, 0.01))
+                killed.append(mount.kill_program())
+                flushing.join()
+            while len(killed) % 2 and len(mount.repeated()) == starts and not ends.wait(0.005):
+                """Waits for the start."""
 
     thread = threading.Thread(target=kill)
     thread.start()
@@ -102,36 +106,42 @@ def goes_on(given):
     with room() as folder, room(TMPFS) as beside:
         words = ['--ranks', 3, '--chaos', 0.2, '--seed', given.seed, '--store', os.path.join(folder, 'tree.db'), '--data', os.path.join(folder, 'data'),
                  '--flush-every', 300]
-        source, there, here = os.path.join(folder, 'source'), 'calls', 'git'
+        source, sessions = os.path.join(folder, 'source'), []
         os.mkdir(source)
         new_repository(source)
         with Mounted(given.program, folder, *words) as mount:
-            for name in (there, here):
-                for top in (mount.path, beside):
-                    os.mkdir(os.path.join(top, name))
-            calls = Calls(given.seed, os.path.join(mount.path, there), os.path.join(beside, there))
+            calls = Calls(given.seed, *(made(top, 'calls') for top in (mount.path, beside)))
             with killing(mount, rand) as killed:
                 while len(killed) < KILLS:
                     calls.make(100)
             calls.compare()
             with killing(mount, rand) as killed:
-                (said, left), (wanted, wanted_left) = (git_session(source, os.path.join(top, here)) for top in (mount.path, beside))
-                equal(said, wanted, 'git says of the clone')
-                equal(difference(left, wanted_left), None, 'the working tree')
-            expect(len(killed) >= KILLS, f'under git the program was killed {len(killed)} times')
+                while len(killed) < KILLS:
+                    sessions.append(f'git{len(sessions)}')
+                    (said, left), (wanted, wanted_left) = (git_session(source, made(top, sessions[-1])) for top in (mount.path, beside))
+                    equal(said, wanted, 'git says of the clone')
+                    equal(difference(left, wanted_left), None, 'the working tree')
             calls.compare()
             repeated = mount.repeated()
             expect(len(repeated) >= KILLS and sum(repeated) > 100, f'so many requests were repeated behind kills: {repeated}')
             mount.unmount()
         with Mounted(given.program, folder, *words) as mount:
             calls.compare()
-            left = git_session_left(os.path.join(mount.path, here))
-            equal(difference(left, git_session_left(os.path.join(beside, here))), None, 'mounted again the clone')
+            for name in sessions:
+                left, wanted_left = (working_tree(os.path.join(top, name, 'clone')) for top in (mount.path, beside))
+                equal(difference(left, wanted_left), None, 'mounted again the working tree')
             mount.unmount()
 
 
-def git_session_left(folder):
-    return {path: found for path, found in tree_of(os.path.join(folder, 'clone')).items() if not path.startswith('.git')}
+def made(top, name):
+    """A new folder there."""
+    path = os.path.join(top, name)
+    os.mkdir(path)
+    return path
+
+
+def working_tree(clone):
+    return {path: (found[0], found[4:], content) for path, (found, content) in tree_of(clone).items() if not path.startswith('.git')}
 
 
 def cannot_go_on(given):
