@@ -57,14 +57,9 @@ class Faults:
             if line == 'flush':
                 wants(said == 'flushed', f'a flush prints {said}')
                 yield table.tree() | sessions
-            elif line.startswith('req '):
-                _, _, client, tid, oldest, operation = line.split(' ', 5)
-                table.hear(operation, said)
-                mark, replies = sessions.get((-1, int(client)), (0, {}))
-                mark = max(mark, int(oldest))
-                sessions[-1, int(client)] = mark, {it: reply for it, reply in replies.items() if it >= mark} | {int(tid): answer_of(said)}
             else:
-                table.hear(line, said)
+                table.hear(line.split(' ', 5)[5] if line.startswith('req ') else line, said)
+                kept(sessions, line, answer_of(said))
         yield table.tree() | sessions
 
     def renew(self):
@@ -147,7 +142,24 @@ class Faults:
         wants(printed[1] == 'flushed', f'the next run prints {printed}')
         wants(log_of(self.path) is None, 'the next run left a log')
         tree = left_in(self.path)
-        wants(tree.pop((1, b'next'), None) and tree in allowed, 'the next run saved something else')
+        wants(tree.pop((1, b'next'), None), 'the next run didn\'t save its name')
+        for it in allowed:
+            kept(it := dict(it), 'create 1 next 644', answer_of(printed[0]))
+            if it == tree:
+                return
+        raise Unsound('the next run saved something else')
+
+
+def kept(sessions, line, answer):
+    """The sessions behind a request, in place of those before. An operation alone is the next one of client 0, and the oldest that it asks for."""
+    if line.startswith('req '):
+        client, tid, oldest = map(int, line.split()[2:5])
+    else:
+        client, tid = 0, sessions.get((-1, 0), (0,))[0] + 1
+        oldest = tid
+    mark, replies = sessions.get((-1, client), (0, {}))
+    mark = max(mark, oldest)
+    sessions[-1, client] = mark, {it: reply for it, reply in replies.items() if it >= mark} | {tid: answer}
 
 
 class LongLog(Faults):
@@ -167,6 +179,7 @@ class LongLog(Faults):
                 yield dict(tree)
             else:
                 tree[ROOT, line.split()[2].encode()] = inode_of(answer_of(said))
+                kept(tree, line, answer_of(said))
         yield tree
 
     def checkpoint(self):

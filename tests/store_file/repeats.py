@@ -108,8 +108,10 @@ class Client:
         if not self.own:
             kind, old = chance.choice(kinds), None
         else:
-            old = chance.choice(sorted(self.own))
-            kind = chance.choice(kinds + ['rename', 'rename', 'setattr', 'lookup', 'readlink', 'remove'])
+            kind = chance.choice(kinds + ['rename', 'rename', 'setattr', 'lookup', 'readlink', 'remove', 'remove'])
+            # the newest is removed often, so that a rank's last number is free
+            newest = max(self.own, key=lambda it: int(it.rpartition('_')[2]))
+            old = newest if kind == 'remove' and chance.random() < 0.6 else chance.choice(sorted(self.own))
         at = f'{self.own[old][0]:x} {old}' if old else None
         if kind in Told.MADE:
             self.own[name] = home, kind

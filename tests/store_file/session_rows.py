@@ -12,14 +12,14 @@ from stores import TABLES, log_of, removed, rows_of, tree_of, written
 from kinds_of_file import content
 
 DONE, ERRNO_2 = b'\4', b'\5\2\0'
-# what two clients do, of whom the first asks for its last two replies
+# what three clients do, of whom client 1 asks for its last two replies
 CLIENTS = ['mkdir 1 d 755', 'req 0 1 1 1 create 10000000000 a 644', 'req 0 1 4 4 lookup 1 x', 'req 0 1 5 4 create 1 b 644 uid 7 gid 8', 'req 0 2 9 9 readdir 1 - 9']
-TOLD = {1: (4, {4: 'errno 2', 5: 'entry 10000000002 file 644 0 0 owner 7 8'}),
+TOLD = {0: (1, {1: 'entry 10000000000 dir 755 0 0'}), 1: (4, {4: 'errno 2', 5: 'entry 10000000002 file 644 0 0 owner 7 8'}),
         2: (9, {9: 'entries 2 end b:10000000002 d:10000000000'})}
 
 
 def cleared(program, folder, name='rows'):
-    """A file of two clients as sqlite3 writes it, so that it may change rows."""
+    """A file of three clients as sqlite3 writes it, so that it may change rows."""
     path, first = os.path.join(folder, name), os.path.join(folder, 'first')
     removed(path)
     removed(first)
@@ -43,7 +43,7 @@ def put(path, rows):
 
 
 def is_kept(program, folder):
-    """What is kept of two clients and a rank, and what a later run answers: a repeat as before, what is older is refused."""
+    """What is kept of three clients and a rank, and what a later run answers: a repeat as before, what is older is refused."""
     path = cleared(program, folder)
     wants(sessions_of(rows_of_sessions(path)) == (TOLD, {0: FIRST + 3}), f'the sessions are {sessions_of(rows_of_sessions(path))}')
     printed = went(program, path, ['req 0 1 4 4 lookup 1 d', 'req 0 1 5 4 rmdir 1 d', 'req 0 1 1 1 lookup 1 d', 'req 0 2 9 9 lookup 1 d', 'req 0 2 8 8 lookup 1 d',
@@ -51,8 +51,8 @@ def is_kept(program, folder):
     again = re.sub(r'^(reply \d+ \d+) \d+ ', r'\1 P ', '\n'.join(printed), flags=re.M).splitlines()
     wants(again == [f'reply 1 4 P again {TOLD[1][1][4]}', f'reply 1 5 P again {TOLD[1][1][5]}', 'refused 4', f'reply 2 9 P again {TOLD[2][1][9]}', 'refused 4',
                     'reply 1 6 P new entry 10000000003 file 644 0 0', 'refused 4'], f'the next run prints {printed}')
-    # places begin behind those of the three replies and the two marks that are kept
-    wants(printed[5].split()[3] == '5' and all(int(printed[k].split()[3]) < 5 for k in (0, 1, 3)), f'the places are those of {printed}')
+    # places begin behind those of the four replies and the three marks that are kept
+    wants(printed[5].split()[3] == '7' and all(int(printed[k].split()[3]) < 7 for k in (0, 1, 3)), f'the places are those of {printed}')
 
 
 def broken(program, folder):
@@ -121,7 +121,8 @@ def older_file(program, folder):
     printed = went(program, path, ['req 0 1 5 5 lookup 10000000000 a', 'create 1 c 644', 'flush'], '--ask')
     wants(printed == ['reply 1 5 0 new entry 10000000001 file 644 0 0', 'reply 0 1 1 new entry 10000000003 file 644 0 0', 'flushed'], f'an older file: {printed}')
     rows = rows_of_sessions(path)
-    wants(sessions_of(rows) == ({1: (5, {5: 'entry 10000000001 file 644 0 0'})}, {0: FIRST + 4}), f'behind it the sessions are {rows}')
+    wants(sessions_of(rows) == ({0: (1, {1: 'entry 10000000003 file 644 0 0'}), 1: (5, {5: 'entry 10000000001 file 644 0 0'})}, {0: FIRST + 4}),
+          f'behind it the sessions are {sessions_of(rows)}')
 
 
 def absent_ranks(program, folder):
@@ -134,11 +135,11 @@ def absent_ranks(program, folder):
     printed = went(program, path, script, '--ask', '--ranks', '4')
     wants(not any('refused' in line for line in printed), f'four ranks print {printed}')
     nexts = {0: FIRST + 3, 1: 2 * FIRST + 1, 2: 3 * FIRST + 2, 3: 4 * FIRST + 3}
-    wants(sessions_of(rows_of_sessions(path)) == ({}, nexts), f'behind four ranks the next numbers are {sessions_of(rows_of_sessions(path))}')
+    wants(sessions_of(rows_of_sessions(path))[1] == nexts, f'behind four ranks the next numbers are {sessions_of(rows_of_sessions(path))}')
     printed = went(program, path, [f'create {FIRST + 1:x} alone 644', 'flush', 'unlink %x alone' % (FIRST + 1)], '--ask', '--ranks', '1')
     wants(printed[0].split()[6] == f'{FIRST + 3:x}', f'one rank prints {printed}')
     nexts[0] += 1
-    wants(sessions_of(rows_of_sessions(path)) == ({}, nexts), f'behind one rank the next numbers are {sessions_of(rows_of_sessions(path))}')
+    wants(sessions_of(rows_of_sessions(path))[1] == nexts, f'behind one rank the next numbers are {sessions_of(rows_of_sessions(path))}')
     for rank in (1, 2, 3):
         printed = went(program, path, [*hand_over[rank], f'create {FIRST + rank - 1:x} later 644'], '--ask', '--ranks', '4')
         wants(printed[-1].split()[6] == f'{nexts[rank]:x}', f'rank {rank} prints {printed}')
@@ -149,8 +150,8 @@ def has_the_table(program, folder):
     """The file has the table as it is written here, as CREATE TABLE has it, and a run without requests leaves its rows."""
     path = cleared(program, folder)
     before = rows_of_sessions(path)
-    went(program, path, ['lookup 1 d', 'flush'])
-    wants(rows_of_sessions(path) == before, 'a run without requests of clients changes the rows')
+    went(program, path, ['objects', 'flush'])
+    wants(rows_of_sessions(path) == before, 'a run without requests changes the rows')
     base = sqlite3.connect(path)
     tables = [sql for sql, in base.execute('SELECT sql FROM sqlite_schema ORDER BY name')]
     base.close()
