@@ -37,7 +37,7 @@ pub data KeptRuns {T : Type 0} (recovers : T → Trees → Type 0) (first : Kept
 -- tables have what one of these flushes wrote
 abbrev pub HasOneOf : Trees → List Flush → Type 0
 HasOneOf db [] = ⊥
-HasOneOf db (flush ∷ flushes) = HasFlush db flush ⊎ HasOneOf db flushes
+HasOneOf db (flush ∷ others) = HasFlush db flush ⊎ HasOneOf db others
 
 -- After a moment at which a flush is on disk, such as a kept one: whatever a crash leaves later has what that flush
 -- wrote, or what a flush that was tried since wrote, its tree and its rows. Before the next flush it is that flush.

@@ -20,10 +20,13 @@ returns-in-Ok-clause-on_disk g c opening past goes =
 pub returns-in-Ok-clause-saves : goal.returns-in-Ok-clause-saves
 returns-in-Ok-clause-saves g c = record {
   book = c.flush.new.book;
-  done = record { flushed = c.flush.ensures.outcome; cold = c.in_default.ensures.cold };
+  done = record { flushed = c.in_default.ensures.outcome; cold = c.in_default.ensures.cold };
   sessions = c.in-Ok.ensures.sessions refl;
   stored = c.in-Ok.ensures.stored;
 }
 
 pub returns-in-Ok-clause-sound : goal.returns-in-Ok-clause-sound
 returns-in-Ok-clause-sound g c = let k = c.flush.ensures.sound in (k.0, k.1, c.keep.ensures.goes_on k.0 k.1 k.2)
+
+pub returns-in-Err-keep-clause-sound : goal.returns-in-Err-keep-clause-sound
+returns-in-Err-keep-clause-sound g c = let k = c.flush.ensures.sound in (k.0, k.1, c.keep.ensures.goes_on k.0 k.1 k.2)
