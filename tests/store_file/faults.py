@@ -58,8 +58,10 @@ class Faults:
                 wants(said == 'flushed', f'a flush prints {said}')
                 yield table.tree() | sessions
             else:
-                table.hear(line.split(' ', 5)[5] if line.startswith('req ') else line, said)
-                kept(sessions, line, answer_of(said))
+                client, tid, oldest, operation = request_of(line, sessions)
+                table.hear(operation, said)
+                wants(said.split()[1:3] == [str(client), str(tid)], f'{line}: {said}, and not a reply to {client}, {tid}')
+                asked(sessions, client, tid, oldest, answer_of(said))
         yield table.tree() | sessions
 
     def renew(self):
@@ -142,24 +144,41 @@ class Faults:
         wants(printed[1] == 'flushed', f'the next run prints {printed}')
         wants(log_of(self.path) is None, 'the next run left a log')
         tree = left_in(self.path)
-        wants(tree.pop((1, b'next'), None), 'the next run didn\'t save its name')
-        for it in allowed:
-            kept(it := dict(it), 'create 1 next 644', answer_of(printed[0]))
-            if it == tree:
-                return
-        raise Unsound('the next run saved something else')
+        inode = tree.pop((1, b'next'), None)
+        wants(inode, 'the next run saved something else')
+        after = [(with_answer(it, 'create 1 next 644', f'entry {inode.ino:x} file 644 0 0'), place_behind(it)) for it in allowed]
+        wants(tree in [it for it, _ in after], f'the next run saved something else: {differences(tree, [it for it, _ in after])}')
+        replies = [f'reply 0 {it[-1, 0][0]} {place} new {it[-1, 0][1][it[-1, 0][0]]}' for it, place in after if it == tree]
+        wants(printed[0] in replies, f'the next run prints {printed[0]}, and not {replies}')
 
 
-def kept(sessions, line, answer):
-    """The sessions behind a request, in place of those before. An operation alone is the next one of client 0, and the oldest that it asks for."""
+def request_of(line, sessions):
+    """The client, number, oldest number and operation of a line: a bare operation is the next request of client 0, which asks for no
+    earlier one any more."""
     if line.startswith('req '):
-        client, tid, oldest = map(int, line.split()[2:5])
-    else:
-        client, tid = 0, sessions.get((-1, 0), (0,))[0] + 1
-        oldest = tid
+        _, _, client, tid, oldest, operation = line.split(' ', 5)
+        return int(client), int(tid), int(oldest), operation
+    tid = sessions.get((-1, 0), (0, {}))[0] + 1
+    return 0, tid, tid, line
+
+
+def asked(sessions, client, tid, oldest, answer):
+    """A new request was answered: its client's mark and replies."""
     mark, replies = sessions.get((-1, client), (0, {}))
     mark = max(mark, oldest)
     sessions[-1, client] = mark, {it: reply for it, reply in replies.items() if it >= mark} | {tid: answer}
+
+
+def with_answer(tree, line, answer):
+    """A tree with the session of a request that was answered."""
+    sessions = dict(tree)
+    asked(sessions, *request_of(line, sessions)[:3], answer)
+    return sessions
+
+
+def place_behind(tree):
+    """The place of a run's first new request: behind one for each reply that is kept, and one for each mark."""
+    return sum((it[0] > 0) + len(it[1]) for at, it in tree.items() if at[0] < 0)
 
 
 class LongLog(Faults):
@@ -178,8 +197,10 @@ class LongLog(Faults):
                 wants(said == 'flushed', f'a flush prints {said}')
                 yield dict(tree)
             else:
+                client, tid, oldest, _ = request_of(line, tree)
+                wants(said.split()[1:3] == [str(client), str(tid)], f'{line}: {said}, and not a reply to {client}, {tid}')
                 tree[ROOT, line.split()[2].encode()] = inode_of(answer_of(said))
-                kept(tree, line, answer_of(said))
+                asked(tree, client, tid, oldest, answer_of(said))
         yield tree
 
     def checkpoint(self):

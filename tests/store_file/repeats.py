@@ -1,8 +1,9 @@
 """Clients that number their requests, and repeat each that they have no answer to, over runs that are killed at random moments (SIGKILL).
 
 What each line has to print is told by the plain table (tests/operation_table) and by what was told before: a request that is repeated is
-answered as it was at first, if it is in the file; if not, it is new; and one that is older than its client asks for is refused 4. Behind
-each kill the file has tree, sessions and next numbers of the last flush that was answered, or all three of the one under way.
+answered as it was at first, if it is in the file; if not, it is new; and one that is older than its client asks for is refused 4. Lines
+without numbers are client 0's, and its numbers go on behind those in the file. Behind each kill the file has tree, sessions and next
+numbers of the last flush that was answered, or all three of the one under way.
 
 Two kinds of clients. A careful one repeats, in their order, also those requests that were answered since the last flush that was answered:
 nothing that it asked for is lost. An easy one repeats those alone to which it has no answer. Each name is that of one request.
@@ -21,7 +22,7 @@ import time
 from formats import FIRST, ROOT, Unsound, wants
 from kills import differences
 from served import Ended, Served, Told, inode_of
-from sessions import replies_in, rows_of_sessions, session_bytes, session_of, sessions_of
+from sessions import key_of, replies_in, rows_of_sessions, session_bytes, session_of, sessions_of
 from stores import TABLES, removed, rows_of, tree_of
 
 # the client that makes so many directories for the others
@@ -125,6 +126,10 @@ class Client:
             return f'{"rmdir" if self.own.pop(old)[1] == "mkdir" else "unlink"} {at}'
         return f'setattr {at} mode 700 mtime {self.tid}' if kind == 'setattr' else f'{kind} {at}'
 
+    def line_of(self, asked, rank):
+        """The line of a request at this rank."""
+        return f'req {rank} {self.number} {asked.tid} {asked.oldest} {asked.line}'
+
     def answered(self, asked):
         asked.is_answered = True
         self.again = [it for it in self.again if it is not asked]
@@ -158,6 +163,23 @@ class Client:
         wants(not self.is_careful or mine == wanted, f'client {self.number} asked for {wanted}, and there is {mine}')
 
 
+class Alone(Client):
+    """Client 0, whose lines have no numbers: the program gives them, behind those in the file. It repeats none."""
+
+    def __init__(self):
+        super().__init__(0, False)
+
+    def next(self, chance, homes):
+        self.tid += 1
+        return Asked(self.tid, self.tid, self.operation(chance, homes))
+
+    def line_of(self, asked, rank):
+        return asked.line
+
+    def lost(self, asked):
+        pass
+
+
 class Repeats:
     """Runs over one file, one after the other. `saved` is the state of the last flush that was answered, `trying` that of the one under way."""
 
@@ -176,7 +198,7 @@ class Repeats:
         self.path = os.path.join(self.folder, f'repeats{self.files}')
         self.saved, self.trying, self.now, self.is_killed = State(), None, State(), False
         numbers = [1, 2, 3, (1 << 64) - 1, self.chance.randrange(MAKER + 1, (1 << 64) - 1)]
-        self.clients = [Client(number, k % 2 == 0) for k, number in enumerate(numbers)]
+        self.clients = [Client(number, k % 2 == 0) for k, number in enumerate(numbers)] + [Alone()]
         self.homes = []
         self.open('')
         for k in range(HOMES):
@@ -197,6 +219,7 @@ class Repeats:
         for client in self.clients:
             client.restarted()
             client.looks(self.saved.told.tree())
+        self.clients[-1].tid = self.saved.marks.get(0, 0)
 
     def turn(self):
         """A run, and what its kill leaves."""
@@ -259,7 +282,7 @@ class Repeats:
         while count > 0:
             batch = [self.one() for _ in range(self.chance.choice([1, 1, 4, 20]))]
             count -= len(batch)
-            lines = [f'req {self.chance.randrange(self.ranks)} {client.number} {it.tid} {it.oldest} {it.line}' for client, it in batch]
+            lines = [client.line_of(it, self.chance.randrange(self.ranks)) for client, it in batch]
             try:
                 self.run.process.stdin.write('\n'.join([*lines, '']).encode())
                 self.run.process.stdin.flush()
@@ -275,7 +298,7 @@ class Repeats:
         """A client and what it asks."""
         client = self.chance.choice(self.clients)
         mark = self.now.marks.get(client.number, 0)
-        if self.chance.random() < 0.1 and mark > 1:
+        if client.number and self.chance.random() < 0.1 and mark > 1:
             tid = self.chance.choice([mark - 1, self.chance.randrange(1, mark)])
             return client, Asked(tid, self.chance.randint(0, tid), f'create 1 old{client.number}_{tid} 644')
         if client.again:
@@ -348,7 +371,7 @@ class Repeats:
         self.open('')
         for client in self.clients:
             for asked in list(client.again):
-                said = self.run.say(f'req 0 {client.number} {asked.tid} {asked.oldest} {asked.line}')
+                said = self.run.say(client.line_of(asked, 0))
                 self.hears(client.number, asked.tid, asked.oldest, asked.line, said)
                 client.answered(asked)
         self.flush()
@@ -418,7 +441,7 @@ def as_before(rows, path):
     return before
 
 
-# what a program may do wrong with the rows that it reads; a file and its log is written anew with what it takes them for
+# what a program may do wrong with the rows that it reads, all but client 0's; a file and its log is written anew with what it takes them for
 WRONG = {
     'no rows are kept': lambda rows, _: {},
     'no clients are kept': lambda rows, _: {key: value for key, value in rows.items() if len(key) == 1},
@@ -434,6 +457,12 @@ WRONG = {
     'two clients have each other\'s rows': lambda rows, _: exchanged(rows),
     'the rows are those of the run before': as_before,
 }
+# and with the row of client 0
+WRONG_OF_0 = {
+    'client 0 is not kept': lambda rows, _: {},
+    'the mark of client 0 is one too low': lambda rows, _: altered(rows, lambda mark, replies: (mark - 1, [])),
+    'the row of client 0 is that of the run before': as_before,
+}
 
 
 def wrong(what, path):
@@ -441,13 +470,18 @@ def wrong(what, path):
     if not os.path.exists(path):
         return
     tree, rows = rows_of(path), rows_of_sessions(path)
+    rows_of_0 = {key_of(0): rows.pop(key_of(0))} if key_of(0) in rows else {}
+    if what in WRONG_OF_0:
+        rows_of_0 = WRONG_OF_0[what](rows_of_0, path)
+    elif what:
+        rows = WRONG[what](rows, path)
     removed(path)
     base = sqlite3.connect(path)
     for table in TABLES:
         base.execute(table)
     base.executemany('INSERT INTO object VALUES (CAST(? AS TEXT), ?)', tree[0].items())
     base.executemany('INSERT INTO omap VALUES (CAST(? AS TEXT), CAST(? AS TEXT), ?)', [(name, *pair) for name, pairs in tree[1].items() for pair in pairs.items()])
-    base.executemany('INSERT INTO session_map VALUES (?, ?)', WRONG[what](rows, path).items() if what else rows.items())
+    base.executemany('INSERT INTO session_map VALUES (?, ?)', (rows | rows_of_0).items())
     base.commit()
     base.close()
 
@@ -464,12 +498,12 @@ def planted(program, folder):
     """Each fault is seen by what is answered; and none where the file is but written anew."""
     moments, seen = [moment for moment in MOMENTS if moment != 'opening'], {}
     repeated(wrapped(program, folder, None), folder, 1, 10, moments)
-    for what in WRONG:
+    for what in [*WRONG, *WRONG_OF_0]:
         with tempfile.TemporaryDirectory(dir=folder) as place:
             try:
                 repeated(wrapped(program, place, what), place, 1, 80, moments, looks_at_all=False)
             except Unsound as why:
                 wants('Traceback' not in str(why), f'{what}: {why}')
                 seen[what] = str(why)
-    wants(len(seen) == len(WRONG), f'nothing sees: {", ".join({*WRONG} - {*seen})}')
+    wants(len(seen) == len(WRONG) + len(WRONG_OF_0), f'nothing sees: {", ".join({*WRONG, *WRONG_OF_0} - {*seen})}')
     return seen

@@ -7,19 +7,20 @@ import sqlite3
 
 from formats import FIRST, wants
 from served import ran, went
-from sessions import key_of, rows_of_sessions, session_bytes, sessions_of
+from sessions import key_of, rows_of_sessions, session_bytes, session_of, sessions_of
 from stores import TABLES, log_of, removed, rows_of, tree_of, written
 from kinds_of_file import content
 
 DONE, ERRNO_2 = b'\4', b'\5\2\0'
-# what three clients do, of whom client 1 asks for its last two replies
+# what client 0 does, which has no number in its line, and two more, of whom the first asks for its last two replies
 CLIENTS = ['mkdir 1 d 755', 'req 0 1 1 1 create 10000000000 a 644', 'req 0 1 4 4 lookup 1 x', 'req 0 1 5 4 create 1 b 644 uid 7 gid 8', 'req 0 2 9 9 readdir 1 - 9']
-TOLD = {0: (1, {1: 'entry 10000000000 dir 755 0 0'}), 1: (4, {4: 'errno 2', 5: 'entry 10000000002 file 644 0 0 owner 7 8'}),
+TOLD = {0: (1, {1: 'entry 10000000000 dir 755 0 0'}),
+        1: (4, {4: 'errno 2', 5: 'entry 10000000002 file 644 0 0 owner 7 8'}),
         2: (9, {9: 'entries 2 end b:10000000002 d:10000000000'})}
 
 
 def cleared(program, folder, name='rows'):
-    """A file of three clients as sqlite3 writes it, so that it may change rows."""
+    """A file of these clients as sqlite3 writes it, so that it may change rows."""
     path, first = os.path.join(folder, name), os.path.join(folder, 'first')
     removed(path)
     removed(first)
@@ -53,6 +54,13 @@ def is_kept(program, folder):
                     'reply 1 6 P new entry 10000000003 file 644 0 0', 'refused 4'], f'the next run prints {printed}')
     # places begin behind those of the four replies and the three marks that are kept
     wants(printed[5].split()[3] == '7' and all(int(printed[k].split()[3]) < 7 for k in (0, 1, 3)), f'the places are those of {printed}')
+    told = TOLD | {1: (6, {6: 'entry 10000000003 file 644 0 0'})}
+    wants(sessions_of(rows_of_sessions(path)) == (told, {0: FIRST + 4}), f'behind it the sessions are {sessions_of(rows_of_sessions(path))}')
+    # client 0 goes on behind its mark, and asks for no earlier reply; three replies and three marks are kept now
+    printed = went(program, path, ['mkdir 1 d 755', 'lookup 1 d'])
+    wants(printed == ['reply 0 2 6 new errno 17', f'reply 0 3 7 new {TOLD[0][1][1]}'], f'the run behind it prints {printed}')
+    told[0] = 3, {3: TOLD[0][1][1]}
+    wants(sessions_of(rows_of_sessions(path)) == (told, {0: FIRST + 4}), f'at last the sessions are {sessions_of(rows_of_sessions(path))}')
 
 
 def broken(program, folder):
@@ -60,6 +68,7 @@ def broken(program, folder):
     session = session_bytes
     for what, key, value, words in (
             ('a reply below the mark', key_of(1), session(4, [(3, DONE)]), 'client 1 .*below'),
+            ('a reply below the mark of client 0', key_of(0), session(4, [(3, DONE)]), 'client 0 .*below'),
             ('a second reply below the mark', key_of(7), session(4, [(4, DONE), (3, DONE)]), 'client 7 .*below'),
             ('a number twice', key_of(1), session(4, [(4, DONE), (4, DONE)]), 'client 1 .*ascend'),
             ('numbers that fall', key_of(1), session(4, [(6, DONE), (5, DONE)]), 'client 1 .*ascend'),
@@ -70,6 +79,7 @@ def broken(program, folder):
             ('a second reply that is none', key_of(2), session(4, [(4, DONE), (5, b'\0')]), 'client 2 .*no reply'),
             ('no mark', key_of(1), b'\4' + bytes(6), 'client 1 .*breaks off'),
             ('nothing', key_of(2), b'', 'client 2 .*breaks off'),
+            ('nothing of client 0', key_of(0), b'', 'client 0 .*breaks off'),
             ('a row that breaks off', key_of(1), session(4, [(4, ERRNO_2)])[:-1], 'client 1 .*breaks off'),
             ('a byte behind the end', key_of(1), session(4, [(4, DONE)]) + b'\0', 'client 1 .*breaks off'),
             ('a key of rank 16', b'\x10', (17 * FIRST).to_bytes(8, 'little'), '.* key'),
@@ -107,8 +117,7 @@ def sound(program, folder):
           'new entry 10000000000 dir 755 0 0'], f'rows that are sound: {printed}')
     clients, nexts = sessions_of(rows_of_sessions(path))
     wants(nexts == {0: 2 * FIRST, 1: 2 * FIRST, 15: 17 * FIRST}, f'the next numbers are {nexts}')
-    wants(clients[last] == (1 << 63, {last: 'errno 2'}) and clients[1] == TOLD[1] and clients[3] == (2, {2: 'entry 10000000000 dir 755 0 0'}),
-          f'the sessions are {clients}')
+    wants(clients == TOLD | {last: (1 << 63, {last: 'errno 2'}), 3: (2, {2: 'entry 10000000000 dir 755 0 0'})}, f'the sessions are {clients}')
 
 
 def older_file(program, folder):
@@ -122,7 +131,7 @@ def older_file(program, folder):
     wants(printed == ['reply 1 5 0 new entry 10000000001 file 644 0 0', 'reply 0 1 1 new entry 10000000003 file 644 0 0', 'flushed'], f'an older file: {printed}')
     rows = rows_of_sessions(path)
     wants(sessions_of(rows) == ({0: (1, {1: 'entry 10000000003 file 644 0 0'}), 1: (5, {5: 'entry 10000000001 file 644 0 0'})}, {0: FIRST + 4}),
-          f'behind it the sessions are {sessions_of(rows)}')
+          f'behind it the sessions are {rows}')
 
 
 def absent_ranks(program, folder):
@@ -135,14 +144,17 @@ def absent_ranks(program, folder):
     printed = went(program, path, script, '--ask', '--ranks', '4')
     wants(not any('refused' in line for line in printed), f'four ranks print {printed}')
     nexts = {0: FIRST + 3, 1: 2 * FIRST + 1, 2: 3 * FIRST + 2, 3: 4 * FIRST + 3}
-    wants(sessions_of(rows_of_sessions(path))[1] == nexts, f'behind four ranks the next numbers are {sessions_of(rows_of_sessions(path))}')
+    # client 0 made three directories and six files, each of which it took away; of these 15 requests the last is kept
+    wants(sessions_of(rows_of_sessions(path)) == ({0: (15, {15: 'done'})}, nexts), f'behind four ranks the next numbers are {sessions_of(rows_of_sessions(path))}')
     printed = went(program, path, [f'create {FIRST + 1:x} alone 644', 'flush', 'unlink %x alone' % (FIRST + 1)], '--ask', '--ranks', '1')
     wants(printed[0].split()[6] == f'{FIRST + 3:x}', f'one rank prints {printed}')
     nexts[0] += 1
-    wants(sessions_of(rows_of_sessions(path))[1] == nexts, f'behind one rank the next numbers are {sessions_of(rows_of_sessions(path))}')
+    wants(sessions_of(rows_of_sessions(path)) == ({0: (17, {17: 'done'})}, nexts), f'behind one rank the next numbers are {sessions_of(rows_of_sessions(path))}')
     for rank in (1, 2, 3):
         printed = went(program, path, [*hand_over[rank], f'create {FIRST + rank - 1:x} later 644'], '--ask', '--ranks', '4')
         wants(printed[-1].split()[6] == f'{nexts[rank]:x}', f'rank {rank} prints {printed}')
+        last, nexts[rank] = f'entry {nexts[rank]:x} file 644 0 0', nexts[rank] + 1
+        wants(sessions_of(rows_of_sessions(path)) == ({0: (17 + rank, {17 + rank: last})}, nexts), f'behind rank {rank} the rows are {rows_of_sessions(path)}')
     wants(log_of(path) is None, 'a log is left')
 
 
@@ -150,8 +162,14 @@ def has_the_table(program, folder):
     """The file has the table as it is written here, as CREATE TABLE has it, and a run without requests leaves its rows."""
     path = cleared(program, folder)
     before = rows_of_sessions(path)
-    went(program, path, ['objects', 'flush'])
-    wants(rows_of_sessions(path) == before, 'a run without requests changes the rows')
+    printed = went(program, path, ['dirfrag ls 1', 'authority 1 *', 'commit 0 1 *', 'history', 'flush'])
+    wants(printed[-1] == 'flushed' and rows_of_sessions(path) == before, f'a run without requests prints {printed} and changes the rows')
+    # one of client 0 alone changes its row, and no other
+    went(program, path, ['lookup 1 d', 'flush'])
+    after = rows_of_sessions(path)
+    wants(session_of(after.pop(key_of(0))) == (2, {2: TOLD[0][1][1]}), 'a look-up of client 0 leaves another session')
+    before.pop(key_of(0))
+    wants(after == before, 'a look-up of client 0 changes the row of another')
     base = sqlite3.connect(path)
     tables = [sql for sql, in base.execute('SELECT sql FROM sqlite_schema ORDER BY name')]
     base.close()
