@@ -3,6 +3,8 @@ use Rattle.admin_cli.proofs.Common.{Admin, Answer, Appends, Command, EndsScript,
 use Rattle.std.specs.Prelude.{◌⊎◌, filter, flat_map, map, replicate, suc, take, zero}
 use Rattle.std.specs.List.{AllByRecursion}
 use Rattle.std.specs.FinMap as finite
+use Rattle.std.specs.FinMap.{get-empty}
+use Rattle.std.specs.Ordering.{nat_cmp}
 use Rattle.std.proofs.lemmas.List.{map-append}
 use Rattle.std.proofs.lemmas.List.Concat.{flat_map-append}
 use Rattle.std.proofs.lemmas.List.Elements.{filter-append}
@@ -24,7 +26,7 @@ use Rattle.cluster_core.proofs.OneThreadLaws.{as_one}
 use Rattle.cluster_core.proofs.StayLaws.{stored_behind}
 use Rattle.admin_cli.proofs.ServedKept.{Served, in_places, in_whole, served_forgot, served_none, served_on, served_one, served_same, step_tells_none}
 use Rattle.cluster_core.proofs.SentLaws.{AreAmong, nested}
-use Rattle.sessions.specs.Table.{mark_in}
+use Rattle.sessions.specs.Table.{Row, mark_in, row_or_none}
 use Rattle.script_text.specs.Script.{line_of}
 use Rattle.script_text.specs.Input.{lines_of}
 use Rattle.script_text.specs.declared.commands.Command.TheVariants as command
@@ -883,7 +885,7 @@ pub prints_new : (ranks cache limit : ℕ) (known before after : Option (List �
 prints_new ranks cache limit known before after result book formatted h =
     let limited : book.core.state.tree.limit ≡ limit = ap (λ (s : State). s.tree.limit) formatted.state in
     let waits : waiting_in book.core.state.inboxes ≡ [] = ap (λ (s : State). waiting_in s.inboxes) formatted.state ∙ none_wait ranks in
-    let unknown : mark_in book.core.state.sessions 0 ≡ 0 = ap (λ (s : State). mark_in s.sessions 0) formatted.state in
+    let unknown : mark_in book.core.state.sessions 0 ≡ 0 = ap (λ (s : State). mark_in s.sessions 0) formatted.state ∙ ap (λ (r : Option Row). (row_or_none r).mark) (get-empty nat_cmp 0) in
     subst (λ (n : ℕ). PrintsOneThread n (fresh finite.empty) [] [] 0 known before after result) limited
     (subst (λ (es : List Entry). PrintsOneThread book.core.state.tree.limit (fresh finite.empty) es [] 0 known before after result) formatted.history
     (subst (λ (ws : List Request). PrintsOneThread book.core.state.tree.limit (fresh finite.empty) book.history ws 0 known before after result) waits

@@ -265,7 +265,10 @@ fn run_lines<R: ReadAhead, W: Write, S: Keep + Drop, T: Tell>(
             return Err(fault);
         }
     }
-    Err(at(last, FaultKind::ReadFault))
+    Err(ScriptFault {
+        line: last,
+        kind: FaultKind::ReadFault,
+    })
 }
 
 // The number of the line that is never read: after so many operations alone, there are 64-bit numbers for operations
