@@ -9,7 +9,7 @@ pub returns : goal.returns
 returns g c =
     elim c.match-opening.branch [
       | in-Some w ↦ rw w.is_empty-is (λ is.
-          opens_empty_of c.args.book.now c.is_sound.ensures (omega (arith, c.places-places.ensures, c.if-places-gt0.false))
+          opens_empty_of c.args.book.now c.is_sound.ensures (omega (arith, c.places.ensures, c.if-places-gt0.false))
           (sym c.opening.ensures ∙ ap option_copied w.in-Some.is ∙ ap Some (w.eq-is_empty.ensures.same.0 is ∙ c.new-empty.ensures)))
       | in-None w ↦ rw w.is_empty-is (λ is. cc)
     ]
