@@ -494,16 +494,24 @@ def wrapped(program, folder, what):
     return path
 
 
+def look_for(what, program, folder, seed, moments, seen):
+    """Notes why a series of runs sees a fault, if it does."""
+    with tempfile.TemporaryDirectory(dir=folder) as place:
+        try:
+            repeated(wrapped(program, place, what), place, seed, 80, moments, looks_at_all=False)
+        except Unsound as why:
+            wants('Traceback' not in str(why), f'{what}: {why}')
+            seen[what] = str(why)
+
+
 def planted(program, folder):
     """Each fault is seen by what is answered; and none where the file is but written anew."""
     moments, seen = [moment for moment in MOMENTS if moment != 'opening'], {}
     repeated(wrapped(program, folder, None), folder, 1, 10, moments)
     for what in [*WRONG, *WRONG_OF_0]:
-        with tempfile.TemporaryDirectory(dir=folder) as place:
-            try:
-                repeated(wrapped(program, place, what), place, 1, 80, moments, looks_at_all=False)
-            except Unsound as why:
-                wants('Traceback' not in str(why), f'{what}: {why}')
-                seen[what] = str(why)
+        # when a program is killed is a matter of chance: a fault that one series doesn't see has two more
+        for seed in range(1, 4):
+            if what not in seen:
+                look_for(what, program, folder, seed, moments, seen)
     wants(len(seen) == len(WRONG) + len(WRONG_OF_0), f'nothing sees: {", ".join({*WRONG, *WRONG_OF_0} - {*seen})}')
     return seen
