@@ -1,7 +1,8 @@
 //! A cluster over a store that is mirrored in tables: what a crash leaves of its tree, and how the cluster starts
-//! again. After a flush that was kept, the tree after the history is on disk (`save`, `kept_of`). Until the next flush
-//! a crash leaves that tree; during the next flush it leaves that tree or the new one (`a_crash_leaves_a_flush`). A
-//! cluster can be mounted from it (`come_back`).
+//! again. After a flush that was kept, the tree after the history is on disk, and beside it the sessions of clients and
+//! the next inode numbers of ranks (`save`). Until the next flush a crash leaves these; during the next flush it leaves
+//! these or the new ones (`a_crash_leaves_a_flush`). A cluster opens with them (`open_book`), or with the tree alone
+//! (`come_back`).
 #![tactic(auto)]
 
 mod back;
