@@ -5,7 +5,7 @@ pub use Rattle.admin_cli.specs.Left.{LeavesAdmin}
 pub use Rattle.admin_cli.specs.OneLine.{AnswersLine, DoesBytes, Prints, RunsOrNot}
 pub use Rattle.admin_cli.specs.OwnLines.{MakesStep, TakesTurn}
 pub use Rattle.admin_cli.specs.Reports.{path_lines}
-pub use Rattle.admin_cli.specs.Scripts.{BreaksOff, EndsScript, IsFormatted, LacksMemory, OfFirst, RunsInput, RunsLine, RunsLines, RunsNew, StopsAt, StopsBefore, text_of}
+pub use Rattle.admin_cli.specs.Scripts.{BreaksOff, EndsScript, IsFormatted, LacksMemory, OfFirst, RunsInput, RunsLine, RunsLines, RunsNew, StopsAt, StopsBefore, line_text}
 pub use Rattle.admin_cli.specs.StepLines.{StepsLine, shown_line}
 pub use Rattle.admin_cli.specs.StoreLines.{BeginsJob, CommitsLine, CopiesNone, EndsLine, LacksForCommit}
 pub use Rattle.admin_cli.specs.Waiting.{Breaks, IsEmpty, LeavesWaiting, MayFlush, PrintsAny, PrintsCame, PrintsOf, PrintsOwn, RunsWaiting, line_at}

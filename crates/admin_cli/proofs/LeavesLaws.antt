@@ -1,5 +1,5 @@
 -- What a script leaves, wherever it ends.
-use Rattle.admin_cli.proofs.Common.{Admin, AnswersLine, Appends, Appends-trans, DoesBytes, Err, FaultKind, IfSome, IsFirstLine, LacksMemory, LeavesAdmin, LeavesWaiting, Line, List, Mark, None, OfFirst, Ok, Option, OutputLine, PrintsOf, Result, RunsLine, RunsLines, ScriptFault, Some, StopsAt, Waiting, [], inl, inr, length, lines_of, refl, subst, sym, text_of, ℕ, ◌++◌, ◌∙◌, ◌∷◌, ◌≡◌, ◌≤◌}
+use Rattle.admin_cli.proofs.Common.{Admin, AnswersLine, Appends, Appends-trans, DoesBytes, Err, FaultKind, IfSome, IsFirstLine, LacksMemory, LeavesAdmin, LeavesWaiting, Line, List, Mark, None, OfFirst, Ok, Option, OutputLine, PrintsOf, Result, RunsLine, RunsLines, ScriptFault, Some, StopsAt, Waiting, [], inl, inr, length, lines_of, refl, subst, sym, line_text, ℕ, ◌++◌, ◌∙◌, ◌∷◌, ◌≡◌, ◌≤◌}
 use Rattle.std.specs.Prelude.{◌⊎◌}
 use Rattle.admin_cli.proofs.Progress.{IsLeft, IsReached, TakesLines, all_lines, first_left, runs-append, some_left, takes-next}
 use Rattle.admin_cli.specs.Scripts.{DoesLine, Doing, LacksLine}
@@ -64,7 +64,7 @@ module _ (Does : Doing) where
 
       any_line : (printed : Option OutputLine) → DoesBytes Does now new line (Ok printed) → (after : Option (List ℕ)) (other : ScriptFault) → LeavesAdmin Does old new known before after (Err other)
       any_line None run = done_so [] run
-      any_line (Some printed) run = done_so (text_of printed) run
+      any_line (Some printed) run = done_so (line_text printed) run
 
       first_of : (others : List (List ℕ)) → (new ≡ now) ⊎ LacksMemory Does now new line → Last now new (line ∷ others)
       first_of others (inl same) = inl same
@@ -94,7 +94,7 @@ module _ (Does : Doing) where
   -- what a line came to, by what it was read as
   by_bytes : (old new : Admin) (bytes : List ℕ) (found : Line) → line_of bytes ≡ found → length bytes ≤ 16384 → (came : Result (Option OutputLine) FaultKind) → AnswersLine Does old new found came → DoesBytes Does old new bytes came
   by_bytes old new bytes found is short (Ok None) does = record { short = short; does = subst (λ (l : Line). DoesLine Does old new l []) (sym is) does }
-  by_bytes old new bytes found is short (Ok (Some printed)) does = record { short = short; does = subst (λ (l : Line). DoesLine Does old new l (text_of printed)) (sym is) does }
+  by_bytes old new bytes found is short (Ok (Some printed)) does = record { short = short; does = subst (λ (l : Line). DoesLine Does old new l (line_text printed)) (sym is) does }
   by_bytes old new bytes found is short (Err kind) (inl (none, told, same)) =
       subst (λ (k : FaultKind). StopsAt Does old new bytes k [] × ((new ≡ old) ⊎ LacksMemory Does old new bytes)) (sym told) ((short, is ∙ none, refl), inl same)
   by_bytes old new bytes found is short (Err kind) (inr (lacks, told)) =

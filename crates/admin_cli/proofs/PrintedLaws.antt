@@ -1,5 +1,5 @@
 -- What a script prints is what one thread tells.
-use Rattle.admin_cli.proofs.Common.{Admin, Answer, Appends, Command, EndsScript, Err, Event, Executes, FaultKind, Fragment, IfOk, IfSome, Ino, IsFormatted, IsLegalFrom, Keeps, List, MakesStep, None, Ok, Opening, Option, OutputLine, Rank, Refusal, Result, RunsInput, RunsLines, RunsOrNot, Some, StopsBefore, [], ap, append-nil, append_assoc, arith, begun, fresh, inl, inr, length, refl, shown_line, subst, sym, text_of, ℕ, ◌++◌, ◌+◌, ◌∙◌, ◌∷◌, ◌≡◌}
+use Rattle.admin_cli.proofs.Common.{Admin, Answer, Appends, Command, EndsScript, Err, Event, Executes, FaultKind, Fragment, IfOk, IfSome, Ino, IsFormatted, IsLegalFrom, Keeps, List, MakesStep, None, Ok, Opening, Option, OutputLine, Rank, Refusal, Result, RunsInput, RunsLines, RunsOrNot, Some, StopsBefore, [], ap, append-nil, append_assoc, arith, begun, fresh, inl, inr, length, refl, shown_line, subst, sym, line_text, ℕ, ◌++◌, ◌+◌, ◌∙◌, ◌∷◌, ◌≡◌}
 use Rattle.std.specs.Prelude.{◌⊎◌, filter, flat_map, map, replicate, suc, take, zero}
 use Rattle.std.specs.List.{AllByRecursion}
 use Rattle.std.specs.FinMap as finite
@@ -314,12 +314,12 @@ module _ (sent : List Request) where
       let books : new.book ≡ old.book = ap (λ (a : Admin). a.book) same in
       record { sound = subst IsSoundKept (sym books) ready.0; told = []; printed = []; whole = none; replies = refl; served = served_same sent old.book new.book books ready.1 }
 
-  did_one : (old new : Admin) (text : List ℕ) (shown : OutputLine) → text ≡ text_of shown → DidLine old new shown → Did old new text
+  did_one : (old new : Admin) (text : List ℕ) (shown : OutputLine) → text ≡ line_text shown → DidLine old new shown → Did old new text
   did_one old new text shown is did = record {
     sound = did.sound;
     told = receipt_in shown;
     printed = output_line shown ∷ [];
-    whole = is ∙ sym (append-nil (text_of shown));
+    whole = is ∙ sym (append-nil (line_text shown));
     replies = line_replies shown;
     served = did.served;
   }
@@ -835,7 +835,7 @@ module _ (Does : Doing) (one_of : AreAsOne Does) (sent : List Request) (old reac
   did_to (bytes ∷ others) has (inr (inr (inr lacks))) =
       let first : AllByRecursion (Contains sent) (requests_of old.operations ((done ++ bytes ∷ []) ++ others)) = subst (λ (ls : List (List ℕ)). AllByRecursion (Contains sent) (requests_of old.operations ls)) (sym (append_assoc done (bytes ∷ []) others)) has in
       let asked = requests_front sent old.operations (done ++ bytes ∷ []) others first in
-      record { some = text ++ text_of lacks.printed; did = one_more bytes (text_of lacks.printed) asked lacks.runs; whole = λ none. cc }
+      record { some = text ++ line_text lacks.printed; did = one_more bytes (line_text lacks.printed) asked lacks.runs; whole = λ none. cc }
 
 -- the replies of a script that ended well were printed
 printed_all : (sent : List Request) (old new : Admin) (text : List ℕ) (left : List (List ℕ)) (d : DidTo sent old new text left) (before after : Option (List ℕ)) (result : Result (Unit {0}) ScriptFault)

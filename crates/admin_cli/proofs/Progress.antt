@@ -1,5 +1,5 @@
 -- A script so far, and what its next line or its end makes of it.
-use Rattle.admin_cli.proofs.Common.{Admin, AnswersLine, Appends, Appends-nil, Appends-trans, Bool, Breaks, BreaksOff, Command, DoesBytes, EndsScript, Err, FaultKind, IfOk, IfSome, IsEmpty, IsFirstLine, IsFormatted, IsTooLong, Keeps, KeptState, LacksForCommand, List, Mark, MayFlush, None, NotCommand, Ok, OnErr, Option, OutOfMemory, OutputLine, Prints, PrintsAny, PrintsCame, PrintsOf, PrintsOwn, ReadFault, Result, RunsInput, RunsLine, RunsLines, RunsNew, RunsOrNot, RunsWaiting, ScriptFault, Some, StopsAt, StopsBefore, TooLong, Waiting, WriteFault, [], ap, append-nil, append_assoc, arith, begun, cond, drop, false, inl, inr, le-ltb, length, length-append, length-drop, length-replicate, line_at, lines_of, lt-ltb, ltb, ltb-false, ltb-true, refl, replicate, subst, suc, sym, take, take-append-drop, take-append-le, text_of, true, ℕ, ◌++◌, ◌+◌, ◌-◌, ◌<◌, ◌∙◌, ◌∷◌, ◌≡◌, ◌≤◌}
+use Rattle.admin_cli.proofs.Common.{Admin, AnswersLine, Appends, Appends-nil, Appends-trans, Bool, Breaks, BreaksOff, Command, DoesBytes, EndsScript, Err, FaultKind, IfOk, IfSome, IsEmpty, IsFirstLine, IsFormatted, IsTooLong, Keeps, KeptState, LacksForCommand, List, Mark, MayFlush, None, NotCommand, Ok, OnErr, Option, OutOfMemory, OutputLine, Prints, PrintsAny, PrintsCame, PrintsOf, PrintsOwn, ReadFault, Result, RunsInput, RunsLine, RunsLines, RunsNew, RunsOrNot, RunsWaiting, ScriptFault, Some, StopsAt, StopsBefore, TooLong, Waiting, WriteFault, [], ap, append-nil, append_assoc, arith, begun, cond, drop, false, inl, inr, le-ltb, length, length-append, length-drop, length-replicate, line_at, lines_of, lt-ltb, ltb, ltb-false, ltb-true, refl, replicate, subst, suc, sym, take, take-append-drop, take-append-le, line_text, true, ℕ, ◌++◌, ◌+◌, ◌-◌, ◌<◌, ◌∙◌, ◌∷◌, ◌≡◌, ◌≤◌}
 use Rattle.script_text.specs.declared.lines.Line.TheVariants as line
 use Rattle.admin_cli.specs.Scripts.{Doing}
 
@@ -348,10 +348,10 @@ module _ (Does : Doing) where
   appends_nothing (Some bytes) (Some now) kept = subst (λ b. now ≡ b) (sym (append-nil bytes)) kept
 
   -- a line that was done was not printed to its end
-  own_stops : (old new : Admin) (bytes : List ℕ) (printed : OutputLine) (kind : FaultKind) (before after : Option (List ℕ)) → RunsLine Does old new bytes (text_of printed) → Prints before after printed (Err kind)
+  own_stops : (old new : Admin) (bytes : List ℕ) (printed : OutputLine) (kind : FaultKind) (before after : Option (List ℕ)) → RunsLine Does old new bytes (line_text printed) → Prints before after printed (Err kind)
       → (front : List ℕ) × StopsAt Does old new bytes kind front × Appends before after front
   own_stops old new bytes printed OutOfMemory before after run (kept, takes) = ([], (run.short, inr (inr (record { printed = printed; runs = run; takes = takes })), refl), appends_nothing before after kept)
-  own_stops old new bytes printed WriteFault before after run wrote = (wrote.front, record { new = new; text = text_of printed; runs = run; rest = wrote.rest; left = wrote.left; whole = wrote.whole }, wrote.written)
+  own_stops old new bytes printed WriteFault before after run wrote = (wrote.front, record { new = new; text = line_text printed; runs = run; rest = wrote.rest; left = wrote.left; whole = wrote.whole }, wrote.written)
   own_stops old new bytes printed NotCommand before after run never = absurd never
   own_stops old new bytes printed TooLong before after run never = absurd never
   own_stops old new bytes printed ReadFault before after run never = absurd never
@@ -368,15 +368,15 @@ module _ (Does : Doing) where
     printed_on (Some printed) done run (inl (puts, kept)) =
         subst (λ (k : Option (List ℕ)). IsReached old new known rest before k waiting'.bytes.items waiting'.marks.items (number + 1)) (sym kept)
         (subst (λ b. IsReached old new known rest before mid b waiting'.marks.items (number + 1)) (sym puts.bytes)
-        (subst (λ m. IsReached old new known rest before mid (waiting.bytes.items ++ text_of printed) m (number + 1)) (sym puts.marks)
-        (go_on_waiting old now new known left rest before mid waiting.bytes.items waiting.marks.items number line r next (text_of printed) run)))
+        (subst (λ m. IsReached old new known rest before mid (waiting.bytes.items ++ line_text printed) m (number + 1)) (sym puts.marks)
+        (go_on_waiting old now new known left rest before mid waiting.bytes.items waiting.marks.items number line r next (line_text printed) run)))
     printed_on (Some printed) done run (inr ((none, no_marks), wrote)) =
         subst (λ b. IsReached old new known rest before after b waiting'.marks.items (number + 1)) (sym none)
         (subst (λ m. IsReached old new known rest before after [] m (number + 1)) (sym no_marks)
-        (flushed old new known rest before mid after (waiting.bytes.items ++ text_of printed) (waiting.marks.items ++ record { line = number; end = length (waiting.bytes.items ++ text_of printed) } ∷ []) (number + 1)
-        (go_on_waiting old now new known left rest before mid waiting.bytes.items waiting.marks.items number line r next (text_of printed) run) wrote))
+        (flushed old new known rest before mid after (waiting.bytes.items ++ line_text printed) (waiting.marks.items ++ record { line = number; end = length (waiting.bytes.items ++ line_text printed) } ∷ []) (number + 1)
+        (go_on_waiting old now new known left rest before mid waiting.bytes.items waiting.marks.items number line r next (line_text printed) run) wrote))
 
-    own_ends : (printed : OutputLine) (fault : ScriptFault) → RunsLine Does now new line (text_of printed) → PrintsOwn waiting number printed mid after fault → RunsInput Does old known before after (Err fault)
+    own_ends : (printed : OutputLine) (fault : ScriptFault) → RunsLine Does now new line (line_text printed) → PrintsOwn waiting number printed mid after fault → RunsInput Does old known before after (Err fault)
     unfolding flushed
     own_ends printed fault run own =
         let (others, all) = first_left left rest line next in

@@ -9,22 +9,22 @@ use Rattle.admin_cli.specs.Admin.{Admin}
 use Rattle.admin_cli.specs.declared.faults.ScriptFault.{ScriptFault}
 use Rattle.admin_cli.specs.declared.faults.FaultKind.{FaultKind}
 use Rattle.admin_cli.specs.declared.faults.FaultKind.TheVariants.{NotCommand, TooLong, ReadFault, WriteFault, OutOfMemory}
-use Rattle.admin_cli.specs.Scripts.{Doing, text_of, DoesLine, LacksLine, LacksMemory, NeverStarts, RunsInput, RunsLine, StopsAt}
+use Rattle.admin_cli.specs.Scripts.{Doing, line_text, DoesLine, LacksLine, LacksMemory, NeverStarts, RunsInput, RunsLine, StopsAt}
 
 -- a line before it is printed: the line to print, if it prints one; or that it isn't a command; or that memory of the
 -- script's own was refused
 abbrev pub AnswersLine : (Does : Doing) → (old new : Admin) → Line → Result (Option OutputLine) FaultKind → Type 0
 AnswersLine Does old new found (Ok None) = DoesLine Does old new found []
-AnswersLine Does old new found (Ok (Some printed)) = DoesLine Does old new found (text_of printed)
+AnswersLine Does old new found (Ok (Some printed)) = DoesLine Does old new found (line_text printed)
 AnswersLine Does old new found (Err kind) =
     ((found ≡ line.NotCommand) × (kind ≡ NotCommand) × (new ≡ old)) ⊎ (LacksLine old new found × (kind ≡ OutOfMemory))
 
 -- the text written for a line: all of it; nothing, if there is no memory for the text of a line that takes some; or a
 -- beginning, at a write fault
 abbrev pub Prints : (before after : Option (List ℕ)) → OutputLine → Result (Unit {0}) FaultKind → Type 0
-Prints before after printed (Ok done) = Appends before after (text_of printed)
+Prints before after printed (Ok done) = Appends before after (line_text printed)
 Prints before after printed (Err OutOfMemory) = Keeps before after × TakesText printed
-Prints before after printed (Err WriteFault) = AppendsBeginning before after (text_of printed)
+Prints before after printed (Err WriteFault) = AppendsBeginning before after (line_text printed)
 Prints before after printed (Err NotCommand) = ⊥
 Prints before after printed (Err TooLong) = ⊥
 Prints before after printed (Err ReadFault) = ⊥
@@ -32,7 +32,7 @@ Prints before after printed (Err ReadFault) = ⊥
 -- one line that was read: its text is that of the line that it prints; or it ends the script, for this reason
 abbrev pub DoesBytes : (Does : Doing) → (old new : Admin) → List ℕ → Result (Option OutputLine) FaultKind → Type 0
 DoesBytes Does old new bytes (Ok None) = RunsLine Does old new bytes []
-DoesBytes Does old new bytes (Ok (Some printed)) = RunsLine Does old new bytes (text_of printed)
+DoesBytes Does old new bytes (Ok (Some printed)) = RunsLine Does old new bytes (line_text printed)
 DoesBytes Does old new bytes (Err kind) =
     StopsAt Does old new bytes kind [] × ((new ≡ old) ⊎ LacksMemory Does old new bytes)
 

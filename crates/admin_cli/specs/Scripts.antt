@@ -21,8 +21,8 @@ use Rattle.admin_cli.specs.declared.faults.FaultKind.TheVariants.{NotCommand, To
 use Rattle.admin_cli.specs.Execute.{LacksForCommand}
 
 -- a printed line with its LF
-abbrev pub text_of : OutputLine → List ℕ
-text_of line = output_line line ++ codes "\n"
+abbrev pub line_text : OutputLine → List ℕ
+line_text line = output_line line ++ codes "\n"
 
 -- what a command does, and the line that it prints: without options (`Executes`) or under some
 abbrev pub Doing : Type 1
@@ -33,8 +33,8 @@ Doing = (old new : Admin) → Command → OutputLine → Type 0
 abbrev pub DoesLine : (Does : Doing) → (old new : Admin) → Line → List ℕ → Type 0
 DoesLine Does old new line.Nothing text = (new ≡ old) × (text ≡ [])
 DoesLine Does old new (line.Command command) text =
-    (printed : OutputLine) × Does old new command printed × (text ≡ text_of printed)
-DoesLine Does old new (line.BadWord errno) text = (new ≡ old) × (text ≡ text_of (Errno errno))
+    (printed : OutputLine) × Does old new command printed × (text ≡ line_text printed)
+DoesLine Does old new (line.BadWord errno) text = (new ≡ old) × (text ≡ line_text (Errno errno))
 DoesLine Does old new line.NotCommand text = ⊥
 
 -- a line of these bytes was done: it isn't too long, and it did what its bytes ask for
@@ -73,7 +73,7 @@ LacksLine old new line.NotCommand = ⊥
 -- a line was done, and there was no memory for the text that it prints
 pub record LacksText (Does : Doing) (old new : Admin) (bytes : List ℕ) : Type 0 where
   pub printed : OutputLine
-  pub runs : RunsLine Does old new bytes (text_of printed)
+  pub runs : RunsLine Does old new bytes (line_text printed)
   pub takes : TakesText printed
 
 -- memory of the script's own was refused for a line: to read it, and then nothing changed; for what its command keeps

@@ -10,7 +10,7 @@ use Rattle.admin_cli.specs.declared.waiting.Mark.{Mark}
 use Rattle.admin_cli.specs.declared.waiting.Waiting.{Waiting}
 use Rattle.admin_cli.specs.Left.{LeavesAdmin}
 use Rattle.admin_cli.specs.OneLine.{Prints}
-use Rattle.admin_cli.specs.Scripts.{Doing, RunsInput, text_of}
+use Rattle.admin_cli.specs.Scripts.{Doing, RunsInput, line_text}
 
 -- the script's line whose text has the byte at a place, from the ends of the lines' texts; 0 if none has it
 abbrev pub line_at : List Mark → ℕ → ℕ
@@ -23,9 +23,9 @@ IsEmpty waiting = (waiting.bytes.items ≡ []) × (waiting.marks.items ≡ [])
 
 -- the text that a line of the script prints was put behind the waiting text
 pub record PutsLine (old new : Waiting) (line : ℕ) (printed : OutputLine) : Type 0 where
-  pub bytes : new.bytes.items ≡ old.bytes.items ++ text_of printed
+  pub bytes : new.bytes.items ≡ old.bytes.items ++ line_text printed
   pub marks : new.marks.items ≡ old.marks.items
-      ++ record { line = line; end = length (old.bytes.items ++ text_of printed) } ∷ []
+      ++ record { line = line; end = length (old.bytes.items ++ line_text printed) } ∷ []
 
 -- a part of the waiting text was written, and the fault names the line whose text broke off
 pub record Breaks (waiting : Waiting) (before after : Option (List ℕ)) (fault : ScriptFault) : Type 0 where
@@ -58,7 +58,7 @@ pub record PrintsOwn (waiting : Waiting) (line : ℕ) (printed : OutputLine) (be
 abbrev pub PrintsApart : (old new : Waiting) → (line : ℕ) → OutputLine → (before after : Option (List ℕ))
     → Result (Unit {0}) ScriptFault → Type 0
 PrintsApart old new line printed before after (Ok done) =
-    IsEmpty new × Appends before after (old.bytes.items ++ text_of printed)
+    IsEmpty new × Appends before after (old.bytes.items ++ line_text printed)
 PrintsApart old new line printed before after (Err fault) =
     IsEmpty new × (Breaks old before after fault ⊎ PrintsOwn old line printed before after fault)
 

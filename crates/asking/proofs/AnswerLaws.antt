@@ -1,5 +1,5 @@
 -- From what steps give to the answer of what was asked.
-use Rattle.asking.proofs.Common.{Answer, Answers, Frozen, None, Nothing, Arrive, ArrivesAt, AsksAlone, Bool, BookState, HasCome, HasComeBehind, KeptState, Opening, StandsBehind, whole_of, Contains, Core, Deferred, Entry, Err, Forwarded, GrantsEach, GrantsThem, Inboxes, IsApplied, IsNewAtMaster, IsDeferred, IsForwarded, IsFrozenAt, IsLeft, IsMaster, IsRepeated, IsSound, IsTakenOut, KeepsButGrants, KeepsUnclean, LacksNumberToServe, Leaf, List, MatchBool, NoInodes, NoMemory, NoneWaits, NotAuthority, Ok, Pin, Question, Rank, Receipt, Refusal, RefusesAsk, RefusesRequest, Request, Result, Roots, Rules, Some, State, Steps, StillWaits, StoreFault, NothingToEvict, TreeMayRefuse, TreeState, Trimmed, UsesStep, WaitsAlone, WhyItWaits, WhyNotGranted, [], ap, arith, false, first_waiting, grant_of, inl, inr, is_directory, is_for, is_pin, left_without, length, list_any, main_leaf, nat_lt, one_authority, refl, set, set-set, Served, ServesTo, shown_tree, subst, sym, told_as, true, waiting_at, with_last, with_waiting, without_request, would_change, ℕ, ◌++◌, ◌∙◌, ◌∷◌, ◌≡◌, ◌≢◌, ◌⊎◌}
+use Rattle.asking.proofs.Common.{Answer, Answers, Frozen, None, Nothing, Arrive, ArrivesAt, AsksAlone, Bool, BookState, HasCome, HasComeBehind, KeptState, Opening, StandsBehind, whole_of, Contains, Core, Deferred, Entry, Err, Forwarded, GrantsEach, GrantsThem, Inboxes, IsApplied, IsNewAtMaster, IsDeferred, IsForwarded, IsFrozenAt, IsLeft, IsMaster, IsRepeated, IsSound, IsTakenOut, KeepsButGrants, KeepsUnclean, LacksNumberToServe, Leaf, List, MatchBool, NoInodes, NoMemory, NoneWaits, NotAuthority, Ok, Pin, Question, Rank, Receipt, Refusal, RefusesAsk, RefusesRequest, Request, Result, Roots, Rules, Some, State, Steps, StillWaits, StoreFault, NothingToEvict, TreeMayRefuse, TreeState, Trimmed, UsesStep, WaitsAlone, WhyItWaits, WhyNotGranted, [], ap, arith, false, first_waiting, grant_of, inl, inr, is_directory, is_for, is_same_grant, left_without, length, list_any, main_leaf, nat_lt, one_authority, refl, set, set-set, Served, ServesTo, shown_tree, subst, sym, told_as, true, waiting_at, with_last, with_waiting, without_request, would_change, ℕ, ◌++◌, ◌∙◌, ◌∷◌, ◌≡◌, ◌≢◌, ◌⊎◌}
 use Rattle.std.specs.FinMap as map
 use Rattle.std.specs.FinMap.{get-empty}
 use Rattle.std.specs.Prelude.{OnOk}
@@ -9,7 +9,7 @@ use Rattle.std.proofs.lemmas.Bool.{ltb-false, ltb-true}
 use Rattle.mds_types.specs.Shape.{destination_of}
 use Rattle.cluster_core.specs.Serve.{FindsFull, IsAtMaster as IsAtItsMaster, LacksAny, ServingTakesMemory}
 use Rattle.cluster_core.specs.Offer.{after_taking}
-use Rattle.cluster_core.specs.Serve.{entry_of, number_of, outcome_of, with_entry}
+use Rattle.cluster_core.specs.Serve.{entry_of, number_taken, outcome_of, with_entry}
 use Rattle.cluster_core.specs.State.{supply_of}
 use Rattle.inode_table.specs.Numbers.{offer}
 use Rattle.mdcache.specs.Frags.{LacksFor}
@@ -165,7 +165,7 @@ module _ (q : Question) (mid : BookState) (at : Rank) (client tid : ℕ) (c : Ha
             roots = new.core.state.roots;
             pins = new.core.state.pins;
             inboxes = i;
-            numbers = set Granted.numbers at.0 (after_taking (supply_of Granted at) (number_of Granted at q.request));
+            numbers = set Granted.numbers at.0 (after_taking (supply_of Granted at) (number_taken Granted at q.request));
             sessions = with_entry Granted.sessions (length q.history) (entry_of Granted at q.request);
           }) (set-set q.core.state.inboxes at.0 (q.request ∷ []) []) h.left;
     }
@@ -359,7 +359,7 @@ module _ (q : Question) (mid : BookState) (at : Rank) (client tid : ℕ) (c : Ha
         let its = h.granted must.leaf (back mid.core.state mid2.core.state alike (λ (s : State). Contains (would_change s q.request.op) must.leaf) must.changes) in
         must.barred (
           λ frozen. its.thawed (back mid.core.state mid2.core.state alike (λ (s : State). IsFrozenAt s must.leaf) frozen),
-          inr (subst (λ (n : ℕ). list_any (is_pin (grant_of must.leaf q.request.client n)) mid2.core.state.pins ≡ true) c.tid_is (subst (λ (n : ℕ). list_any (is_pin (grant_of must.leaf n tid)) mid2.core.state.pins ≡ true) c.client_is its.granted)),
+          inr (subst (λ (n : ℕ). list_any (is_same_grant (grant_of must.leaf q.request.client n)) mid2.core.state.pins ≡ true) c.tid_is (subst (λ (n : ℕ). list_any (is_same_grant (grant_of must.leaf n tid)) mid2.core.state.pins ≡ true) c.client_is its.granted)),
         )
 
 -- ---- once it's answered nothing waits

@@ -7,7 +7,7 @@ pub use Rattle.asking.specs.Serves.{IsOfServe, KeepsUnclean, ServesTo, SomeWaits
 pub use Rattle.cluster_core.specs.declared.receipts.Receipt.{Receipt}
 pub use Rattle.asking.specs.declared.serves.Served.{Served}
 pub use Rattle.asking.specs.declared.serves.Served.TheVariants.{Replied, Goes, Waits}
-pub use Rattle.cluster_core.proofs.Common.{ArrivesAt, Bool, BookState, CacheMap, Contains, Core, Covers, Dentry, Entry, Err, Fragment, Frozen, GrantsFirst, GrantsWaiting, HasLeaf, InboxFull, Inboxes, Ino, Inode, InOrder, IsApplied, IsForwarded, IsFrozenAt, IsGranted, IsHolder, IsKeptAt, IsLeft, IsLive, IsNew, IsRepeated, IsSound, IsSoundBook, IsSoundKept, IsTable, IsTakenOut, IsTree, IsTrimmed, KeptState, Leaf, List, Lists, Looks, Makes, MatchBool, Moves, NoInodes, NoMemory, None, NotAuthority, Ok, Op, Option, Pin, Rank, ReadsOp, Refusal, RefusesRequest, Removes, Request, Result, Roots, Rules, ServesInbox, ServesRequest, Sets, Shape, Some, StandsBehind, State, Steps, Tree, TreeMayRefuse, Trimmed, Unlinks, UsesRequest, UsesStep, [], and_parts, ap, append-nil, arith, changed_fragments, cond, destination_in, directory_in, done_in, entry_stands, false, first, first_or_later, first_waiting, fragment_of, get_or, get_or-set_other, get_or-set_same, grant_of, in_directory, inl, inr, is_dir_kind, is_directory, is_errno, is_known, is_pin, is_same, known_is, later, leaves_at, leaves_of, length, length-set, list_any, main_leaf, nat_lt, none_in, not, offer, one_authority, outcome_of, pick_of, picked, places_of, refl, rules, same_or_apart, set, set-get_or, shape, shown, shown_tree, some_authority, step_in, step, subst, suc, supply_of, sym, touched, touched_in, tree_of_row, true, waiting_at, whole_of, with_grants, with_last, with_waiting, without_request, zero, ℕ, ◌&&◌, ◌++◌, ◌+◌, ◌-◌, ◌*◌, ◌<◌, ◌==◌, ◌∙◌, ◌∷◌, ◌≡◌, ◌≢◌, ◌≤◌, ◌⊎◌}
+pub use Rattle.cluster_core.proofs.Common.{ArrivesAt, Bool, BookState, CacheMap, Contains, Core, Covers, Dentry, Entry, Err, Fragment, Frozen, GrantsFirst, GrantsWaiting, HasLeaf, InboxFull, Inboxes, Ino, Inode, InOrder, IsApplied, IsForwarded, IsFrozenAt, IsGranted, IsHolder, IsKeptAt, IsLeft, IsLive, IsNew, IsRepeated, IsSound, IsSoundBook, IsSoundKept, IsTable, IsTakenOut, IsTree, IsTrimmed, KeptState, Leaf, List, Lists, Looks, Makes, MatchBool, Moves, NoInodes, NoMemory, None, NotAuthority, Ok, Op, Option, Pin, Rank, ReadsOp, Refusal, RefusesRequest, Removes, Request, Result, Roots, Rules, ServesInbox, ServesRequest, Sets, Shape, Some, StandsBehind, State, Steps, Tree, TreeMayRefuse, Trimmed, Unlinks, UsesRequest, UsesStep, [], and_parts, ap, append-nil, arith, changed_fragments, cond, destination_in, directory_in, done_in, entry_stands, false, first, first_or_later, first_waiting, fragment_of, get_or, get_or-set_other, get_or-set_same, grant_of, in_directory, inl, inr, is_dir_kind, is_directory, is_errno, is_known, is_same_grant, is_same, known_is, later, leaves_at, leaves_of, length, length-set, list_any, main_leaf, nat_lt, none_in, not, offer, one_authority, outcome_of, pick_of, picked, places_of, refl, rules, same_or_apart, set, set-get_or, shape, shown, shown_tree, some_authority, step_in, step, subst, suc, supply_of, sym, touched, touched_in, tree_of_row, true, waiting_at, whole_of, with_grants, with_last, with_waiting, without_request, zero, ℕ, ◌&&◌, ◌++◌, ◌+◌, ◌-◌, ◌*◌, ◌<◌, ◌==◌, ◌∙◌, ◌∷◌, ◌≡◌, ◌≢◌, ◌≤◌, ◌⊎◌}
 pub use Rattle.cluster_core.specs.Grants.{Grants, GrantsRequest, RefusesGrant}
 pub use Rattle.cluster_core.specs.Master.{IsAuthority, IsMaster, MayTouchAll, MustWait, would_change, would_change_in}
 pub use Rattle.cluster_core.specs.Runs.{Runs, StepsBook}
@@ -23,7 +23,7 @@ pub use Rattle.cluster_core.specs.declared.events.Event.TheVariants.{Arrive, Gra
 pub use Rattle.dentry_cache.specs.CacheMap.{unclean_of}
 pub use Rattle.dentry_cache.specs.Came.{NoneEnds}
 pub use Rattle.inboxes.specs.Inbox.{first_of, is_of}
-pub use Rattle.inboxes.specs.Pins.{is_for, is_on, left_without, with_pin}
+pub use Rattle.inboxes.specs.Pins.{is_for, is_on, left_without, with_grant}
 pub use Rattle.mdcache.proofs.UncleanOf.{reads_unclean_of}
 pub use Rattle.mdcache.specs.State.{State as TreeState}
 pub use Rattle.mdcache.specs.Sound.{IsSound as IsSoundTree}

@@ -1,5 +1,5 @@
 -- What a grant gives, and those of all ranks one after the other.
-use Rattle.asking.proofs.Common.{None, KeepsButGrants, Opening, Option, Answer, Bool, Contains, Core, Entry, Err, Frozen, Grant, Grants, GrantsEach, GrantsFirst, GrantsOf, GrantsRequest, GrantsSo, GrantsThem, GrantsWaiting, IsAuthority, IsFrozenAt, IsGranted, IsSound, KeepsUnclean, Leaf, List, MatchBool, NoInodes, NoMemory, NotAuthority, NothingToEvict, Ok, Op, Pin, Rank, ReadsOp, Refusal, RefusesGrant, Request, Result, Some, State, Steps, StoreFault, TreeMayRefuse, UsesStep, WhyNotGranted, ap, arith, false, first_waiting, grant_of, held_roots, inl, inr, is_for, is_pin, left_without, length, list_any, nat_lt, refl, subst, sym, true, with_grants, would_change, ℕ, ◌+◌, ◌<◌, ◌∙◌, ◌≡◌, ◌≢◌, ◌⊎◌}
+use Rattle.asking.proofs.Common.{None, KeepsButGrants, Opening, Option, Answer, Bool, Contains, Core, Entry, Err, Frozen, Grant, Grants, GrantsEach, GrantsFirst, GrantsOf, GrantsRequest, GrantsSo, GrantsThem, GrantsWaiting, IsAuthority, IsFrozenAt, IsGranted, IsSound, KeepsUnclean, Leaf, List, MatchBool, NoInodes, NoMemory, NotAuthority, NothingToEvict, Ok, Op, Pin, Rank, ReadsOp, Refusal, RefusesGrant, Request, Result, Some, State, Steps, StoreFault, TreeMayRefuse, UsesStep, WhyNotGranted, ap, arith, false, first_waiting, grant_of, held_roots, inl, inr, is_for, is_same_grant, left_without, length, list_any, nat_lt, refl, subst, sym, true, with_grants, would_change, ℕ, ◌+◌, ◌<◌, ◌∙◌, ◌≡◌, ◌≢◌, ◌⊎◌}
 use Rattle.std.proofs.lemmas.Bool.{cases_lt, lt-ltb}
 use Rattle.std.specs.Result.{result_err}
 use Rattle.cluster_core.specs.Uses.{UsesWaiting}
@@ -46,11 +46,11 @@ module _ (old new : Core) (past now : List Entry) (rank : Rank) (client tid : �
               granted = λ leaf other same has rules.
                   let its : IsGranted old.state rank request.op leaf = record { changes = has; mine = subst (λ (r : Rank). IsAuthority old.state leaf r) same rules } in record {
                     thawed = h.thawed leaf its;
-                    granted = ap (list_any (is_pin (grant_of leaf client tid))) pins ∙ grants_have h.leaves old.state.pins client tid leaf ((h.exactly leaf).1 its);
+                    granted = ap (list_any (is_same_grant (grant_of leaf client tid))) pins ∙ grants_have h.leaves old.state.pins client tid leaf ((h.exactly leaf).1 its);
                   };
               unclean = reads_keep old new request.op None steps.capacity used;
             },
-            λ leaf stands. ap (list_any (is_pin (grant_of leaf client tid))) pins ∙ grants_keep h.leaves old.state.pins client tid (grant_of leaf client tid) stands,
+            λ leaf stands. ap (list_any (is_same_grant (grant_of leaf client tid))) pins ∙ grants_keep h.leaves old.state.pins client tid (grant_of leaf client tid) stands,
           )
 
       go : Looked (Ok answer) → GrantsOf old new rank client tid request.op (Ok tt)
@@ -65,7 +65,7 @@ module _ (old new : Core) (past now : List Entry) (rank : Rank) (client tid : �
       granted = λ leaf other is has rules. absurd (none leaf (record { changes = has; mine = subst (λ (r : Rank). IsAuthority old.state leaf r) is rules }));
       unclean = unclean;
     },
-    λ leaf stands. ap (λ (s : State). list_any (is_pin (grant_of leaf client tid)) s.pins) same ∙ stands,
+    λ leaf stands. ap (λ (s : State). list_any (is_same_grant (grant_of leaf client tid)) s.pins) same ∙ stands,
   )
 
   -- nothing is its own

@@ -11,7 +11,7 @@ use Rattle.mds_types.proofs.LeafLaws.{get_removed, leaf-total, same_or_apart}
 use Rattle.std.specs.declared.cmp.Ordering.TheVariants.{Less}
 use Rattle.dentry_cache.specs.Candidates.{IsBehind}
 use Rattle.export_steps.specs.ByExporter.{IsNextOf}
-use Rattle.export_steps.specs.ByExporter.{IsBehind as IsBehindRoot}
+use Rattle.export_steps.specs.ByExporter.{IsRootBehind as IsBehindRoot}
 use Rattle.export_steps.specs.Standing.{Standing, is_freezing}
 use Rattle.export_steps.specs.declared.exports.ExportState.{ExportState}
 use Rattle.export_steps.specs.declared.exports.ExportState.TheVariants as at

@@ -5,7 +5,7 @@ use Rattle.mds_types.specs.declared.ids.Rank.{Rank}
 use Rattle.mds_types.specs.declared.operations.Op.{Op}
 use Rattle.mds_types.specs.declared.refusals.Refusal.{Refusal}
 use Rattle.mds_types.specs.declared.refusals.Refusal.TheVariants.{Frozen, NoMemory, NothingToEvict, StoreFault}
-use Rattle.inboxes.specs.Pins.{is_for, is_pin, left_without}
+use Rattle.inboxes.specs.Pins.{is_for, is_same_grant, left_without}
 use Rattle.subtree_map.specs.Authority.{Leaf}
 use Rattle.cluster_core.specs.Master.{IsAuthority, IsFrozenAt, grant_of, would_change}
 use Rattle.cluster_core.specs.State.{Core, State}
@@ -20,7 +20,7 @@ pub record KeepsButGrants (old new : State) (client tid : ℕ) : Type 0 where
 -- a leaf isn't frozen, and is granted to a request
 pub record IsGrantedFor (old new : State) (client tid : ℕ) (leaf : Leaf) : Type 0 where
   pub thawed : IsFrozenAt old leaf → ⊥
-  pub granted : list_any (is_pin (grant_of leaf client tid)) new.pins ≡ true
+  pub granted : list_any (is_same_grant (grant_of leaf client tid)) new.pins ≡ true
 
 -- each leaf that an operation would change, and whose authority is one of these ranks, is granted
 pub record GrantsSo (old new : Core) (client tid : ℕ) (op : Op) (Ranks : Rank → Type 0) : Type 0 where
@@ -57,7 +57,7 @@ GrantsEach old new client tid op (Err reason) =
 abbrev pub GrantsOf : (old new : Core) → Rank → (client tid : ℕ) → Op → Result (Unit {0}) Refusal → Type 0
 GrantsOf old new rank client tid op (Ok done) =
     GrantsSo old new client tid op (λ other. other ≡ rank)
-    × ((leaf : Leaf) → list_any (is_pin (grant_of leaf client tid)) old.state.pins ≡ true
-    → list_any (is_pin (grant_of leaf client tid)) new.state.pins ≡ true)
+    × ((leaf : Leaf) → list_any (is_same_grant (grant_of leaf client tid)) old.state.pins ≡ true
+    → list_any (is_same_grant (grant_of leaf client tid)) new.state.pins ≡ true)
 GrantsOf old new rank client tid op (Err reason) =
     KeepsButGrants old.state new.state client tid × WhyNotGranted old new op reason

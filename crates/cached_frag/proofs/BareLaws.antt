@@ -1,5 +1,5 @@
 -- What holds of a fragment that has neither names nor room for any.
-use Rattle.cached_frag.proofs.Common.{AreDirtyNames, Base, Cached, Fresh, Inode, Joins, List, Mark, Marks, Names, None, Option, Row, Stored, [], ap, arith, cond, counts_of, false, get-empty, key_cmp, len-empty, len-entries, marked_as, nil_from_length, not, refl, rows_after, shown, shown_as, subst, sym, true, ℕ, ◌∙◌, ◌≡◌, ◌≤◌}
+use Rattle.cached_frag.proofs.Common.{AreDirtyNames, Base, Cached, Fresh, Inode, Joins, List, Mark, Marks, Names, None, Option, NamedInode, Stored, [], ap, arith, cond, counts_of, false, get-empty, key_cmp, len-empty, len-entries, marked_as, nil_from_length, not, refl, rows_after, shown_names, shown_as, subst, sym, true, ℕ, ◌∙◌, ◌≡◌, ◌≤◌}
 use Rattle.std.specs.Prelude.{IfSome, is_some, ◌==◌}
 use Rattle.std.specs.FinMap as map
 use Rattle.std.specs.FinMap.{empty_of_len}
@@ -16,30 +16,30 @@ use Rattle.cached_frag.proofs.ShownLaws.{nothing_shown}
 no_pairs : {X : Type 0} → [] ≡ map.entries (map.empty {X = X} {R = key_cmp})
 no_pairs {X} = sym (nil_from_length _ (sym (len-entries (map.empty {X = X} {R = key_cmp})) ∙ len-empty key_cmp X))
 
-none_in : (base : Base) (generation : ℕ) → shown (nameless base generation) ≡ map.empty
+none_in : (base : Base) (generation : ℕ) → shown_names (nameless base generation) ≡ map.empty
 none_in Fresh generation = nothing_shown map.empty refl
 none_in (Stored version) generation = nothing_shown map.empty refl
 
 module _ (base : Base) (generation : ℕ) (f : Cached) (is : nameless base generation ≡ f) where
-  pub nothing : shown f ≡ map.empty
-  nothing = sym (ap (λ (g : Cached). shown g) is) ∙ none_in base generation
+  pub nothing : shown_names f ≡ map.empty
+  nothing = sym (ap (λ (g : Cached). shown_names g) is) ∙ none_in base generation
 
   pub no_changes : f.dirty ≡ map.empty
   no_changes = sym (ap (λ (g : Cached). g.dirty) is)
 
-  pub none_found : (name : List ℕ) → None ≡ map.get (shown f) name
+  pub none_found : (name : List ℕ) → None ≡ map.get (shown_names f) name
   none_found name = sym (ap (λ (n : Names). map.get n name) nothing ∙ get-empty key_cmp name)
 
-  pub none_there : (name : List ℕ) → false ≡ is_some (map.get (shown f) name)
+  pub none_there : (name : List ℕ) → false ≡ is_some (map.get (shown_names f) name)
   none_there name = ap (λ (o : Option Inode). is_some o) (none_found name)
 
-  pub none_recorded : (name : List ℕ) → IfSome (map.get (shown f) name) HasRecord
+  pub none_recorded : (name : List ℕ) → IfSome (map.get (shown_names f) name) HasRecord
   none_recorded name = subst (λ (o : Option Inode). IfSome o HasRecord) (none_found name) tt
 
-  pub none_counted : record { files = 0; dirs = 0 } ≡ counts_of (shown f)
+  pub none_counted : record { files = 0; dirs = 0 } ≡ counts_of (shown_names f)
   none_counted = sym (ap counts_of nothing ∙ nothing_counted)
 
-  pub none_listed : 0 ≡ map.len (shown f)
+  pub none_listed : 0 ≡ map.len (shown_names f)
   none_listed = sym (ap (λ (n : Names). map.len n) nothing ∙ len-empty key_cmp Inode)
 
   pub dirty_count : 0 ≡ map.len f.dirty
@@ -51,11 +51,11 @@ module _ (base : Base) (generation : ℕ) (f : Cached) (is : nameless base gener
   pub are_dirty : AreDirtyNames f.dirty
   are_dirty = none_dirty f.dirty no_changes
 
-  pub no_rows : (after : Option (List ℕ)) → [] ≡ rows_after after (map.entries (shown f))
-  no_rows after = ap (λ (rows : List Row). rows_after after rows) no_pairs ∙ sym (ap (λ (n : Names). rows_after after (map.entries n)) nothing)
+  pub no_rows : (after : Option (List ℕ)) → [] ≡ rows_after after (map.entries (shown_names f))
+  no_rows after = ap (λ (rows : List NamedInode). rows_after after rows) no_pairs ∙ sym (ap (λ (n : Names). rows_after after (map.entries n)) nothing)
 
   -- an empty map is what it gives away
-  pub given_away : (names : Names) → names ≡ map.empty → names ≡ shown f
+  pub given_away : (names : Names) → names ≡ map.empty → names ≡ shown_names f
   given_away names none = none ∙ sym nothing
 
   -- as many names as there is room for are none
@@ -66,14 +66,14 @@ module _ (base : Base) (generation : ℕ) (f : Cached) (is : nameless base gener
       let none : (q : List ℕ) → map.get names q ≡ None = λ q. ap (λ (n : Names). map.get n q) (empty_of_len names few) ∙ get-empty key_cmp q in
       record {
         dirty = λ q. sym (ap (λ (r : Option Inode). marked_as version r (map.get f.dirty q)) (none q));
-        shown = λ q. sym (ap (λ (r : Option Inode). shown_as r (map.get (shown f) q)) (none q));
+        shown_names = λ q. sym (ap (λ (r : Option Inode). shown_as r (map.get (shown_names f) q)) (none q));
         room = omega (arith, few);
         same = refl;
       }
 
   pub taken : (names : Marks) → names ≡ map.empty → (snap : Snap) → snap ≡ record { base = base; names = names; counts = record { files = 0; dirs = 0 } } → snap ≡ snapshot_of f
   taken names none snap same =
-      same ∙ (λ i. record { base = base; names = (none ∙ sym no_changes) i; counts = none_counted i }) ∙ ap (λ (b : Base). record { base = b; names = f.dirty; counts = counts_of (shown f) }) (ap (λ (g : Cached). g.base) is)
+      same ∙ (λ i. record { base = base; names = (none ∙ sym no_changes) i; counts = none_counted i }) ∙ ap (λ (b : Base). record { base = b; names = f.dirty; counts = counts_of (shown_names f) }) (ap (λ (g : Cached). g.base) is)
 
   -- no name is dirty once another commit has ended
   pub none_settled : (snap : Marks) → map.empty ≡ unsettled f.dirty snap

@@ -21,7 +21,7 @@ use Rattle.cached_frag.specs.declared.bases.Base.{Base}
 use Rattle.cached_frag.specs.declared.bases.Base.TheVariants.{Fresh, Stored}
 use Rattle.cached_frag.specs.declared.bases.EntryCounts.{EntryCounts}
 use Rattle.cached_frag.specs.declared.marks.Mark.{Mark}
-use Rattle.cached_frag.specs.Commit.{CommitIsRight, IsOver, gone_of, header_after, set_of, write_of}
+use Rattle.cached_frag.specs.Commit.{CommitIsRight, IsOver, gone_of, header_of_commit, set_of, write_of}
 use Rattle.cached_frag.specs.Marks.{AreDirtyNames, Marks, inode_or, patched}
 use Rattle.cached_frag.specs.Snap.{IsSnap, Snap, counts_of, next_version}
 use Rattle.cached_frag.proofs.MarkLaws.{get-patched}
@@ -177,10 +177,10 @@ spells_nothing = record { read = λ key bytes found. nothing_at key bytes found;
 -- ---- the whole
 
 header_spelled : (snap : Snap) (names : Names) → IsSnap snap → 1 ≤ next_version snap.base → next_version snap.base < 2 ^ 64 → snap.counts ≡ counts_of names
-    → SpellsHeader (header_bytes (header_after snap)) (header_for (next_version snap.base) names)
+    → SpellsHeader (header_bytes (header_of_commit snap)) (header_for (next_version snap.base) names)
 header_spelled snap names ok some below counts =
-    let same : header_after snap ≡ header_for (next_version snap.base) names = λ i. record { version = next_version snap.base; files = (counts i).files; dirs = (counts i).dirs } in
-    subst (SpellsHeader (header_bytes (header_after snap))) same (record { committed = some; version = below; files = ok.files; dirs = ok.dirs; spelled = refl })
+    let same : header_of_commit snap ≡ header_for (next_version snap.base) names = λ i. record { version = next_version snap.base; files = (counts i).files; dirs = (counts i).dirs } in
+    subst (SpellsHeader (header_bytes (header_of_commit snap))) same (record { committed = some; version = below; files = ok.files; dirs = ok.dirs; spelled = refl })
 
 module _ (base : Base) (marks : Marks) (counts : EntryCounts) (object : Omap) where
   abbrev snap_of : Snap

@@ -1,12 +1,12 @@
 -- Names of other crates, and of this one's definitions, as the proofs of this crate take them.
-pub use Rattle.cached_frag.specs.Cached.{AreEntries, Cached, IsBased, marked, shown, shown_over}
-pub use Rattle.cached_frag.specs.Commit.{with_keys, with_records}
+pub use Rattle.cached_frag.specs.Cached.{AreEntries, Cached, IsBased, marked, shown_names, shown_over}
+pub use Rattle.cached_frag.specs.Commit.{keys_after_marks, with_records}
 pub use Rattle.cached_frag.specs.Counted.{counted, counted_or}
 pub use Rattle.cached_frag.specs.Counting.{dirs_among, files_among, is_dir, is_file}
-pub use Rattle.cached_frag.specs.Kept.{IsKept}
-pub use Rattle.cached_frag.specs.Marks.{AreDirtyNames, IsDirtyName, Marks, inode_or, patched, with_mark, with_marks}
+pub use Rattle.cached_frag.specs.Kept.{IsCachedWith}
+pub use Rattle.cached_frag.specs.Marks.{AreDirtyNames, IsDirtyName, Marks, inode_or, patched, with_changed_name, with_marks}
 pub use Rattle.cached_frag.specs.Moving.{Joins, TakesIn, marked_as, shown_as}
-pub use Rattle.cached_frag.specs.Rows.{Change, Row, changed_rows, first_of, merged, merged_one, rows_after, rows_left, with_change}
+pub use Rattle.cached_frag.specs.Rows.{Change, NamedInode, changed_rows, head_of, merged, merged_one, rows_after, rows_left, with_change}
 pub use Rattle.cached_frag.specs.SameMarks.{mark_decides}
 pub use Rattle.cached_frag.specs.Settling.{settled_in}
 pub use Rattle.cached_frag.specs.Snap.{counts_of}

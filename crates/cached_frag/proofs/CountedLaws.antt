@@ -1,5 +1,5 @@
 -- Entry counts once one name has another inode.
-use Rattle.cached_frag.proofs.Common.{Bool, Equal, Greater, Inode, Less, List, Names, None, Option, Ordering, Some, T, [], ap, arith, by_order, cond, counts_of, dirs_in, entries-insert, entries_sorted, false, files_in, filter, find, get-entries, get_beside, get_left, get_put, get_removed, inl, inr, is_dir, is_dir_kind, is_eq, is_file, is_sorted, key_cmp, left_of, len-empty, len-entries, length, nat_list_cmp_total, nil_from_length, not, not_found_below, one_map, put, refl, right_of, same_or_apart, sym, true, with_mark, ℕ, ◌+◌, ◌∙◌, ◌∷◌, ◌≡◌, ◌≤◌, ◌⊎◌}
+use Rattle.cached_frag.proofs.Common.{Bool, Equal, Greater, Inode, Less, List, Names, None, Option, Ordering, Some, T, [], ap, arith, by_order, cond, counts_of, dirs_in, entries-insert, entries_sorted, false, files_in, filter, find, get-entries, get_beside, get_left, get_put, get_removed, inl, inr, is_dir, is_dir_kind, is_eq, is_file, is_sorted, key_cmp, left_of, len-empty, len-entries, length, nat_list_cmp_total, nil_from_length, not, not_found_below, one_map, put, refl, right_of, same_or_apart, sym, true, with_changed_name, ℕ, ◌+◌, ◌∙◌, ◌∷◌, ◌≡◌, ◌≤◌, ◌⊎◌}
 use Rattle.std.specs.FinMap as map
 use Rattle.cached_frag.proofs.RowLaws.{below_chain}
 
@@ -66,7 +66,7 @@ module _ (p : Inode → Bool) where
       let rest : tally (map.entries (map.insert (map.remove m k) k v)) + weight (map.get (map.remove m k) k) ≡ tally (map.entries (map.remove m k)) + weight (Some v) = insert_tally (map.remove m k) k v in
       omega (arith, back, none, rest)
 
-  mark_tally : (m : Names) (k : List ℕ) (o : Option Inode) → tally (map.entries (with_mark m k o)) + weight (map.get m k) ≡ tally (map.entries m) + weight o
+  mark_tally : (m : Names) (k : List ℕ) (o : Option Inode) → tally (map.entries (with_changed_name m k o)) + weight (map.get m k) ≡ tally (map.entries m) + weight o
   mark_tally m k (Some v) = insert_tally m k v
   mark_tally m k None = let e : tally (map.entries (map.remove m k)) + weight (map.get m k) ≡ tally (map.entries m) = remove_tally m k (map.get m k) refl in omega (arith, e)
 
@@ -79,24 +79,24 @@ file_weight None = refl
 file_weight (Some inode) = refl
 
 -- the counts of names once one of them has another inode, or none
-pub dirs_marked : (m : Names) (k : List ℕ) (o : Option Inode) → dirs_in (with_mark m k o) + cond (is_dir (map.get m k)) 1 0 ≡ dirs_in m + cond (is_dir o) 1 0
+pub dirs_marked : (m : Names) (k : List ℕ) (o : Option Inode) → dirs_in (with_changed_name m k o) + cond (is_dir (map.get m k)) 1 0 ≡ dirs_in m + cond (is_dir o) 1 0
 dirs_marked m k o =
-    let all : tally (λ inode. is_dir_kind inode.kind) (map.entries (with_mark m k o)) + weight (λ inode. is_dir_kind inode.kind) (map.get m k) ≡ tally (λ inode. is_dir_kind inode.kind) (map.entries m) + weight (λ inode. is_dir_kind inode.kind) o =
+    let all : tally (λ inode. is_dir_kind inode.kind) (map.entries (with_changed_name m k o)) + weight (λ inode. is_dir_kind inode.kind) (map.get m k) ≡ tally (λ inode. is_dir_kind inode.kind) (map.entries m) + weight (λ inode. is_dir_kind inode.kind) o =
     mark_tally (λ inode. is_dir_kind inode.kind) m k o in
     omega (arith, all, dir_weight (map.get m k), dir_weight o)
 
-pub files_marked : (m : Names) (k : List ℕ) (o : Option Inode) → files_in (with_mark m k o) + cond (is_file (map.get m k)) 1 0 ≡ files_in m + cond (is_file o) 1 0
+pub files_marked : (m : Names) (k : List ℕ) (o : Option Inode) → files_in (with_changed_name m k o) + cond (is_file (map.get m k)) 1 0 ≡ files_in m + cond (is_file o) 1 0
 files_marked m k o =
-    let all : tally (λ inode. not (is_dir_kind inode.kind)) (map.entries (with_mark m k o)) + weight (λ inode. not (is_dir_kind inode.kind)) (map.get m k) ≡ tally (λ inode. not (is_dir_kind inode.kind)) (map.entries m) + weight (λ inode. not (is_dir_kind inode.kind)) o =
+    let all : tally (λ inode. not (is_dir_kind inode.kind)) (map.entries (with_changed_name m k o)) + weight (λ inode. not (is_dir_kind inode.kind)) (map.get m k) ≡ tally (λ inode. not (is_dir_kind inode.kind)) (map.entries m) + weight (λ inode. not (is_dir_kind inode.kind)) o =
     mark_tally (λ inode. not (is_dir_kind inode.kind)) m k o in
     omega (arith, all, file_weight (map.get m k), file_weight o)
 
 -- a name that is there is counted
 pub dirs_some : (m : Names) (k : List ℕ) → cond (is_dir (map.get m k)) 1 0 ≤ dirs_in m
-dirs_some m k = let e : dirs_in (with_mark m k None) + cond (is_dir (map.get m k)) 1 0 ≡ dirs_in m + 0 = dirs_marked m k None in omega (arith, e)
+dirs_some m k = let e : dirs_in (with_changed_name m k None) + cond (is_dir (map.get m k)) 1 0 ≡ dirs_in m + 0 = dirs_marked m k None in omega (arith, e)
 
 pub files_some : (m : Names) (k : List ℕ) → cond (is_file (map.get m k)) 1 0 ≤ files_in m
-files_some m k = let e : files_in (with_mark m k None) + cond (is_file (map.get m k)) 1 0 ≡ files_in m + 0 = files_marked m k None in omega (arith, e)
+files_some m k = let e : files_in (with_changed_name m k None) + cond (is_file (map.get m k)) 1 0 ≡ files_in m + 0 = files_marked m k None in omega (arith, e)
 
 -- no names have no counts
 pub nothing_counted : counts_of map.empty ≡ record { files = 0; dirs = 0 }

@@ -1,5 +1,5 @@
 -- What each fragment keeps, once it is made and once a name has changed.
-use Rattle.cached_frag.proofs.Common.{AreDirtyNames, AreEntries, Base, Cached, EntryCounts, Fresh, IsBased, IsDirtyName, IsKept, List, Mark, Marks, Names, None, Option, Some, Stored, ap, arith, counted, counted_or, counts_of, get-empty, inode_or, key_cmp, marked, refl, shown, shown_over, subst, sym, with_mark, ℕ, ◌+◌, ◌-◌, ◌<◌, ◌^◌, ◌∙◌, ◌≡◌, ◌≤◌}
+use Rattle.cached_frag.proofs.Common.{AreDirtyNames, AreEntries, Base, Cached, EntryCounts, Fresh, IsBased, IsDirtyName, IsCachedWith, List, Mark, Marks, Names, None, Option, Some, Stored, ap, arith, counted, counted_or, counts_of, get-empty, inode_or, key_cmp, marked, refl, shown_names, shown_over, subst, sym, with_changed_name, ℕ, ◌+◌, ◌-◌, ◌<◌, ◌^◌, ◌∙◌, ◌≡◌, ◌≤◌}
 use Rattle.std.specs.FinMap as map
 use Rattle.cached_frag.proofs.MarkLaws.{none_dirty, one_dirty}
 use Rattle.cached_frag.proofs.CountedLaws.{all_counted, dirs_marked, dirs_some, files_marked, files_some, nothing_counted}
@@ -12,7 +12,7 @@ no_entries names none name inode is =
 
 -- a fragment with no names and no room for any
 pub kept_bare : (base : Base) (generation : ℕ) (clean : Names) (dirty : Marks) (places free : ℕ) → clean ≡ map.empty → dirty ≡ map.empty
-    → IsKept (record { base = base; generation = generation; clean = clean; dirty = dirty; room = 0; places = free }) (record { files = 0; dirs = 0 }) places
+    → IsCachedWith (record { base = base; generation = generation; clean = clean; dirty = dirty; room = 0; places = free }) (record { files = 0; dirs = 0 }) places
 kept_bare Fresh generation clean dirty places free bare none =
     record {
       based = bare;
@@ -33,8 +33,8 @@ kept_bare (Stored version) generation clean dirty places free bare none =
     }
 
 -- what a name counted as
-pub was_counted : (f : Cached) (counts : EntryCounts) (places : ℕ) (name : List ℕ) (below before : EntryCounts) → IsKept f counts places → below ≡ counted (map.get f.clean name) → before ≡ counted_or (map.get f.dirty name) below
-    → before ≡ counted (map.get (shown f) name)
+pub was_counted : (f : Cached) (counts : EntryCounts) (places : ℕ) (name : List ℕ) (below before : EntryCounts) → IsCachedWith f counts places → below ≡ counted (map.get f.clean name) → before ≡ counted_or (map.get f.dirty name) below
+    → before ≡ counted (map.get (shown_names f) name)
 was_counted f counts places name below before kept low is =
     is ∙ ap (counted_or (map.get f.dirty name)) low ∙ either (map.get f.dirty name) ∙ sym (ap counted (get-shown f.base f.clean f.dirty name kept.based))
   where
@@ -43,43 +43,43 @@ was_counted f counts places name below before kept low is =
     either None = refl
 
 -- the counts allow the change of a name
-pub file_there : (f : Cached) (counts : EntryCounts) (places : ℕ) (name : List ℕ) (before : EntryCounts) → IsKept f counts places → before ≡ counted (map.get (shown f) name) → before.files ≤ counts.files
+pub file_there : (f : Cached) (counts : EntryCounts) (places : ℕ) (name : List ℕ) (before : EntryCounts) → IsCachedWith f counts places → before ≡ counted (map.get (shown_names f) name) → before.files ≤ counts.files
 file_there f counts places name before kept is =
-    let some : (counted (map.get (shown f) name)).files ≤ (counts_of (shown f)).files = files_some (shown f) name in
-    let same : before.files ≡ (counted (map.get (shown f) name)).files = ap (λ (c : EntryCounts). c.files) is in
-    let total : counts.files ≡ (counts_of (shown f)).files = ap (λ (c : EntryCounts). c.files) kept.counted in
+    let some : (counted (map.get (shown_names f) name)).files ≤ (counts_of (shown_names f)).files = files_some (shown_names f) name in
+    let same : before.files ≡ (counted (map.get (shown_names f) name)).files = ap (λ (c : EntryCounts). c.files) is in
+    let total : counts.files ≡ (counts_of (shown_names f)).files = ap (λ (c : EntryCounts). c.files) kept.counted in
     omega (arith, some, same, total)
 
-pub dir_there : (f : Cached) (counts : EntryCounts) (places : ℕ) (name : List ℕ) (before : EntryCounts) → IsKept f counts places → before ≡ counted (map.get (shown f) name) → before.dirs ≤ counts.dirs
+pub dir_there : (f : Cached) (counts : EntryCounts) (places : ℕ) (name : List ℕ) (before : EntryCounts) → IsCachedWith f counts places → before ≡ counted (map.get (shown_names f) name) → before.dirs ≤ counts.dirs
 dir_there f counts places name before kept is =
-    let some : (counted (map.get (shown f) name)).dirs ≤ (counts_of (shown f)).dirs = dirs_some (shown f) name in
-    let same : before.dirs ≡ (counted (map.get (shown f) name)).dirs = ap (λ (c : EntryCounts). c.dirs) is in
-    let total : counts.dirs ≡ (counts_of (shown f)).dirs = ap (λ (c : EntryCounts). c.dirs) kept.counted in
+    let some : (counted (map.get (shown_names f) name)).dirs ≤ (counts_of (shown_names f)).dirs = dirs_some (shown_names f) name in
+    let same : before.dirs ≡ (counted (map.get (shown_names f) name)).dirs = ap (λ (c : EntryCounts). c.dirs) is in
+    let total : counts.dirs ≡ (counts_of (shown_names f)).dirs = ap (λ (c : EntryCounts). c.dirs) kept.counted in
     omega (arith, some, same, total)
 
-module _ (f : Cached) (counts now : EntryCounts) (places left : ℕ) (name : List ℕ) (mark : Mark) (before after : EntryCounts) (kept : IsKept f counts places) (dirty : IsDirtyName name mark) (room : 0 < f.room)
-    (was : before ≡ counted (map.get (shown f) name)) (is : after ≡ counted mark.inode) (one : after.files + after.dirs ≤ 1)
+module _ (f : Cached) (counts now : EntryCounts) (places left : ℕ) (name : List ℕ) (mark : Mark) (before after : EntryCounts) (kept : IsCachedWith f counts places) (dirty : IsDirtyName name mark) (room : 0 < f.room)
+    (was : before ≡ counted (map.get (shown_names f) name)) (is : after ≡ counted mark.inode) (one : after.files + after.dirs ≤ 1)
     (files : now.files + before.files ≡ counts.files + after.files) (dirs : now.dirs + before.dirs ≡ counts.dirs + after.dirs) (places_left : places ≤ left + 1) where
-  files_now : now.files ≡ (counts_of (with_mark (shown f) name mark.inode)).files
+  files_now : now.files ≡ (counts_of (with_changed_name (shown_names f) name mark.inode)).files
   files_now =
-      let law : (counts_of (with_mark (shown f) name mark.inode)).files + (counted (map.get (shown f) name)).files ≡ (counts_of (shown f)).files + (counted mark.inode).files = files_marked (shown f) name mark.inode in
-      let same : before.files ≡ (counted (map.get (shown f) name)).files = ap (λ (c : EntryCounts). c.files) was in
+      let law : (counts_of (with_changed_name (shown_names f) name mark.inode)).files + (counted (map.get (shown_names f) name)).files ≡ (counts_of (shown_names f)).files + (counted mark.inode).files = files_marked (shown_names f) name mark.inode in
+      let same : before.files ≡ (counted (map.get (shown_names f) name)).files = ap (λ (c : EntryCounts). c.files) was in
       let new : after.files ≡ (counted mark.inode).files = ap (λ (c : EntryCounts). c.files) is in
-      let old : counts.files ≡ (counts_of (shown f)).files = ap (λ (c : EntryCounts). c.files) kept.counted in
+      let old : counts.files ≡ (counts_of (shown_names f)).files = ap (λ (c : EntryCounts). c.files) kept.counted in
       omega (arith, law, same, new, old, files)
 
-  dirs_now : now.dirs ≡ (counts_of (with_mark (shown f) name mark.inode)).dirs
+  dirs_now : now.dirs ≡ (counts_of (with_changed_name (shown_names f) name mark.inode)).dirs
   dirs_now =
-      let law : (counts_of (with_mark (shown f) name mark.inode)).dirs + (counted (map.get (shown f) name)).dirs ≡ (counts_of (shown f)).dirs + (counted mark.inode).dirs = dirs_marked (shown f) name mark.inode in
-      let same : before.dirs ≡ (counted (map.get (shown f) name)).dirs = ap (λ (c : EntryCounts). c.dirs) was in
+      let law : (counts_of (with_changed_name (shown_names f) name mark.inode)).dirs + (counted (map.get (shown_names f) name)).dirs ≡ (counts_of (shown_names f)).dirs + (counted mark.inode).dirs = dirs_marked (shown_names f) name mark.inode in
+      let same : before.dirs ≡ (counted (map.get (shown_names f) name)).dirs = ap (λ (c : EntryCounts). c.dirs) was in
       let new : after.dirs ≡ (counted mark.inode).dirs = ap (λ (c : EntryCounts). c.dirs) is in
-      let old : counts.dirs ≡ (counts_of (shown f)).dirs = ap (λ (c : EntryCounts). c.dirs) kept.counted in
+      let old : counts.dirs ≡ (counts_of (shown_names f)).dirs = ap (λ (c : EntryCounts). c.dirs) kept.counted in
       omega (arith, law, same, new, old, dirs)
 
-  counted_now : now ≡ counts_of (shown (marked f name mark))
+  counted_now : now ≡ counts_of (shown_names (marked f name mark))
   counted_now = (λ i. record { files = files_now i; dirs = dirs_now i }) ∙ ap counts_of (sym (shown_marked f name mark))
 
-  pub kept_marked : (new : Marks) → new ≡ map.insert f.dirty name mark → IsKept (record { base = f.base; generation = f.generation; clean = f.clean; dirty = new; room = f.room - 1; places = f.places }) now left
+  pub kept_marked : (new : Marks) → new ≡ map.insert f.dirty name mark → IsCachedWith (record { base = f.base; generation = f.generation; clean = f.clean; dirty = new; room = f.room - 1; places = f.places }) now left
   kept_marked new same =
       let few : counts.files + counts.dirs + f.room < 2 ^ 64 = kept.few in
       let reserved : f.room ≤ places = kept.reserved in
@@ -87,25 +87,25 @@ module _ (f : Cached) (counts now : EntryCounts) (places left : ℕ) (name : Lis
         based = kept.based;
         entries = kept.entries;
         dirty = one_dirty f.dirty new name mark kept.dirty dirty same;
-        counted = counted_now ∙ sym (ap (λ (d : Marks). counts_of (shown (record { base = f.base; generation = f.generation; clean = f.clean; dirty = d; room = f.room - 1; places = f.places }))) same);
+        counted = counted_now ∙ sym (ap (λ (d : Marks). counts_of (shown_names (record { base = f.base; generation = f.generation; clean = f.clean; dirty = d; room = f.room - 1; places = f.places }))) same);
         few = omega (arith, few, files, dirs, one, room);
         reserved = omega (arith, reserved, places_left, room);
       }
 
-pub kept_reserved : (f : Cached) (counts : EntryCounts) (places more changes : ℕ) (dirty : Marks) → IsKept f counts places → dirty ≡ f.dirty → counts.files + counts.dirs + changes < 2 ^ 64 → changes ≤ more
-    → IsKept (record { base = f.base; generation = f.generation; clean = f.clean; dirty = dirty; room = changes; places = f.places }) counts more
+pub kept_reserved : (f : Cached) (counts : EntryCounts) (places more changes : ℕ) (dirty : Marks) → IsCachedWith f counts places → dirty ≡ f.dirty → counts.files + counts.dirs + changes < 2 ^ 64 → changes ≤ more
+    → IsCachedWith (record { base = f.base; generation = f.generation; clean = f.clean; dirty = dirty; room = changes; places = f.places }) counts more
 kept_reserved f counts places more changes dirty kept same few enough =
     record {
       based = kept.based;
       entries = kept.entries;
       dirty = subst AreDirtyNames (sym same) kept.dirty;
-      counted = kept.counted ∙ sym (ap (λ (d : Marks). counts_of (shown (record { base = f.base; generation = f.generation; clean = f.clean; dirty = d; room = changes; places = f.places }))) same);
+      counted = kept.counted ∙ sym (ap (λ (d : Marks). counts_of (shown_names (record { base = f.base; generation = f.generation; clean = f.clean; dirty = d; room = changes; places = f.places }))) same);
       few = few;
       reserved = enough;
     }
 
-pub kept_places : (f : Cached) (counts : EntryCounts) (places free : ℕ) (clean : Names) → IsKept f counts places → clean ≡ f.clean
-    → IsKept (record { base = f.base; generation = f.generation; clean = clean; dirty = f.dirty; room = f.room; places = free }) counts places
+pub kept_places : (f : Cached) (counts : EntryCounts) (places free : ℕ) (clean : Names) → IsCachedWith f counts places → clean ≡ f.clean
+    → IsCachedWith (record { base = f.base; generation = f.generation; clean = clean; dirty = f.dirty; room = f.room; places = free }) counts places
 kept_places f counts places free clean kept same =
     record {
       based = subst (IsBased f.base) (sym same) kept.based;
@@ -117,7 +117,7 @@ kept_places f counts places free clean kept same =
     }
 
 pub kept_stored : (version : ℕ) (clean : Names) (dirty : Marks) (places free : ℕ) (counts : EntryCounts) → AreEntries clean → dirty ≡ map.empty → counts ≡ counts_of clean → counts.files + counts.dirs < 2 ^ 64
-    → IsKept (record { base = Stored version; generation = 0; clean = clean; dirty = dirty; room = 0; places = free }) counts places
+    → IsCachedWith (record { base = Stored version; generation = 0; clean = clean; dirty = dirty; room = 0; places = free }) counts places
 kept_stored version clean dirty places free counts entries none counted few =
     record {
       based = tt;
@@ -129,8 +129,8 @@ kept_stored version clean dirty places free counts entries none counted few =
     }
 
 -- the counts are those of all names that are shown
-pub kept_len : (f : Cached) (counts : EntryCounts) (places : ℕ) → IsKept f counts places → counts.files + counts.dirs ≡ map.len (shown f)
+pub kept_len : (f : Cached) (counts : EntryCounts) (places : ℕ) → IsCachedWith f counts places → counts.files + counts.dirs ≡ map.len (shown_names f)
 kept_len f counts places kept =
-    let files : counts.files ≡ (counts_of (shown f)).files = ap (λ (c : EntryCounts). c.files) kept.counted in
-    let dirs : counts.dirs ≡ (counts_of (shown f)).dirs = ap (λ (c : EntryCounts). c.dirs) kept.counted in
-    omega (arith, files, dirs, all_counted (shown f))
+    let files : counts.files ≡ (counts_of (shown_names f)).files = ap (λ (c : EntryCounts). c.files) kept.counted in
+    let dirs : counts.dirs ≡ (counts_of (shown_names f)).dirs = ap (λ (c : EntryCounts). c.dirs) kept.counted in
+    omega (arith, files, dirs, all_counted (shown_names f))

@@ -12,24 +12,24 @@ use Rattle.objstore.specs.Omap.{key_cmp}
 use Rattle.dirfrag_codec.specs.FragmentObject.{Names}
 use Rattle.dirfrag_codec.proofs.ByteKeys.{get_beside, get_left, get_put, get_removed, key_apart, key_same, not_found, one_map, same_or_apart}
 use Rattle.cached_frag.specs.declared.marks.Mark.{Mark}
-use Rattle.cached_frag.specs.Marks.{AreDirtyNames, IsDirtyName, Marks, inode_or, patched, with_mark, with_marks}
+use Rattle.cached_frag.specs.Marks.{AreDirtyNames, IsDirtyName, Marks, inode_or, patched, with_changed_name, with_marks}
 
-pub marked_here : (names : Names) (name : List ℕ) (inode : Option Inode) → map.get (with_mark names name inode) name ≡ inode
+pub marked_here : (names : Names) (name : List ℕ) (inode : Option Inode) → map.get (with_changed_name names name inode) name ≡ inode
 marked_here names name (Some inode) = get_put names name inode
 marked_here names name None = get_removed names name
 
-pub marked_beside : (names : Names) (name : List ℕ) (inode : Option Inode) (q : List ℕ) → (q ≡ name → ⊥) → map.get (with_mark names name inode) q ≡ map.get names q
+pub marked_beside : (names : Names) (name : List ℕ) (inode : Option Inode) (q : List ℕ) → (q ≡ name → ⊥) → map.get (with_changed_name names name inode) q ≡ map.get names q
 marked_beside names name (Some inode) q apart = get_beside names name inode q apart
 marked_beside names name None q apart = get_left names name q apart
 
 get-with_marks : (names : Names) (es : List (List ℕ × Mark)) (q : List ℕ) → T (is_sorted key_cmp es) → map.get (with_marks names es) q ≡ inode_or (find key_cmp q es) (map.get names q)
 get-with_marks names [] q sorted = refl
-get-with_marks names (e ∷ es) q sorted = get-with_marks (with_mark names e.0 e.1.inode) es q (right_of _ _ sorted) ∙ go (same_or_apart q e.0)
+get-with_marks names (e ∷ es) q sorted = get-with_marks (with_changed_name names e.0 e.1.inode) es q (right_of _ _ sorted) ∙ go (same_or_apart q e.0)
   where
-    go : (q ≡ e.0) ⊎ (q ≡ e.0 → ⊥) → inode_or (find key_cmp q es) (map.get (with_mark names e.0 e.1.inode) q) ≡ inode_or (cond (eq_by_cmp key_cmp q e.0) (Some e.1) (find key_cmp q es)) (map.get names q)
+    go : (q ≡ e.0) ⊎ (q ≡ e.0 → ⊥) → inode_or (find key_cmp q es) (map.get (with_changed_name names e.0 e.1.inode) q) ≡ inode_or (cond (eq_by_cmp key_cmp q e.0) (Some e.1) (find key_cmp q es)) (map.get names q)
     go (inl same) =
-        let here : map.get (with_mark names e.0 e.1.inode) q ≡ e.1.inode = ap (λ (k : List ℕ). map.get (with_mark names e.0 e.1.inode) k) same ∙ marked_here names e.0 e.1.inode in
-        ap (λ (r : Option Mark). inode_or r (map.get (with_mark names e.0 e.1.inode) q)) (not_found e.0 q es same (left_of _ _ sorted)) ∙ here
+        let here : map.get (with_changed_name names e.0 e.1.inode) q ≡ e.1.inode = ap (λ (k : List ℕ). map.get (with_changed_name names e.0 e.1.inode) k) same ∙ marked_here names e.0 e.1.inode in
+        ap (λ (r : Option Mark). inode_or r (map.get (with_changed_name names e.0 e.1.inode) q)) (not_found e.0 q es same (left_of _ _ sorted)) ∙ here
         ∙ sym (ap (λ (b : Bool). inode_or (cond b (Some e.1) (find key_cmp q es)) (map.get names q)) (key_same q e.0 same))
     go (inr apart) =
         ap (inode_or (find key_cmp q es)) (marked_beside names e.0 e.1.inode q apart)

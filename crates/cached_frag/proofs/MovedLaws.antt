@@ -9,9 +9,9 @@ use Rattle.objstore.specs.Omap.{key_cmp}
 use Rattle.dirfrag_codec.specs.FragmentObject.{Names}
 use Rattle.dirfrag_codec.proofs.ByteKeys.{get_beside, get_left, get_put, get_removed, key_itself, same_or_apart}
 use Rattle.cached_frag.specs.declared.marks.Mark.{Mark}
-use Rattle.cached_frag.specs.Marks.{with_mark}
+use Rattle.cached_frag.specs.Marks.{with_changed_name}
 use Rattle.cached_frag.proofs.MarkLaws.{marked_beside, marked_here}
-use Rattle.cached_frag.specs.Cached.{AreEntries, Cached, IsEntry, marked, shown}
+use Rattle.cached_frag.specs.Cached.{AreEntries, Cached, IsEntry, marked, shown_names}
 use Rattle.cached_frag.specs.Moving.{marked_as, shown_as}
 use Rattle.cached_frag.proofs.ShownLaws.{shown_marked}
 
@@ -65,14 +65,14 @@ module _ (old new : Names) (pair : List ℕ × Inode) (there : map.get old pair.
         (λ here. ap (λ (g : Cached). map.get g.dirty q) is ∙ ap (λ (k : List ℕ). map.get (map.insert f.dirty pair.0 mark) k) here ∙ get_put f.dirty pair.0 mark)
         (λ apart. ap (λ (g : Cached). map.get g.dirty q) is ∙ get_beside f.dirty pair.0 mark q apart)
 
-    pub shown_step : (q : List ℕ) → shown_as (map.get new q) (map.get (shown now) q) ≡ shown_as (map.get old q) (map.get (shown f) q)
+    pub shown_step : (q : List ℕ) → shown_as (map.get new q) (map.get (shown_names now) q) ≡ shown_as (map.get old q) (map.get (shown_names f) q)
     shown_step q =
-        step shown_as None q (map.get (shown f) q) (map.get (shown now) q) (λ x. refl) (λ x y. refl)
-        (λ here. shows ∙ ap (λ (k : List ℕ). map.get (with_mark (shown f) pair.0 (Some pair.1)) k) here ∙ marked_here (shown f) pair.0 (Some pair.1))
-        (λ apart. shows ∙ marked_beside (shown f) pair.0 (Some pair.1) q apart)
+        step shown_as None q (map.get (shown_names f) q) (map.get (shown_names now) q) (λ x. refl) (λ x y. refl)
+        (λ here. shows ∙ ap (λ (k : List ℕ). map.get (with_changed_name (shown_names f) pair.0 (Some pair.1)) k) here ∙ marked_here (shown_names f) pair.0 (Some pair.1))
+        (λ apart. shows ∙ marked_beside (shown_names f) pair.0 (Some pair.1) q apart)
       where
-        shows : map.get (shown now) q ≡ map.get (with_mark (shown f) pair.0 (Some pair.1)) q
-        shows = ap (λ (g : Cached). map.get (shown g) q) is ∙ ap (λ (n : Names). map.get n q) (shown_marked f pair.0 mark)
+        shows : map.get (shown_names now) q ≡ map.get (with_changed_name (shown_names f) pair.0 (Some pair.1)) q
+        shows = ap (λ (g : Cached). map.get (shown_names g) q) is ∙ ap (λ (n : Names). map.get n q) (shown_marked f pair.0 mark)
 
     pub room_step : 0 < f.room → now.room + 1 ≡ f.room
     room_step some = let less : now.room ≡ f.room - 1 = ap (λ (g : Cached). g.room) is in omega (arith, less, some)

@@ -1,5 +1,5 @@
 -- Two lists of rows in the order of their names, merged.
-use Rattle.cached_frag.proofs.Common.{Bool, Change, Equal, Greater, Inode, Less, List, Mark, Marks, Names, None, Option, Ordering, Row, Some, T, [], all_kept, ap, below_all, both_of, by_order, changed_rows, cond, entries_sorted, eq_by_cmp, exact_bytes, false, find, find-where_key, first_of, get-entries, inl, inode_or, inr, is_after, is_lt, is_sorted, is_sorted-where_key, key_apart, key_cmp, key_same, key_tied, left_of, merged, merged_one, nat_list_cmp_total, not_found, ordering_reverse, patched, refl, right_of, rows_after, same_entries, same_or_apart, subst, sym, true, where_key, with_change, ℕ, ◌∙◌, ◌∷◌, ◌≡◌, ◌⊎◌}
+use Rattle.cached_frag.proofs.Common.{Bool, Change, Equal, Greater, Inode, Less, List, Mark, Marks, Names, None, Option, Ordering, NamedInode, Some, T, [], all_kept, ap, below_all, both_of, by_order, changed_rows, cond, entries_sorted, eq_by_cmp, exact_bytes, false, find, find-where_key, head_of, get-entries, inl, inode_or, inr, is_after, is_lt, is_sorted, is_sorted-where_key, key_apart, key_cmp, key_same, key_tied, left_of, merged, merged_one, nat_list_cmp_total, not_found, ordering_reverse, patched, refl, right_of, rows_after, same_entries, same_or_apart, subst, sym, true, where_key, with_change, ℕ, ◌∙◌, ◌∷◌, ◌≡◌, ◌⊎◌}
 use Rattle.std.specs.FinMap as map
 use Rattle.sorted_map.proofs.PlaceLaws.{less as less_of}
 use Rattle.cached_frag.proofs.MarkLaws.{get-patched}
@@ -18,7 +18,7 @@ below_chain a b (e ∷ es) less below = both_of _ _ (is_less _ (nat_list_cmp_tot
 below_same : {X : Type 0} (a b : List ℕ) (es : List (List ℕ × X)) → a ≡ b → T (below_all key_cmp b es) → T (below_all key_cmp a es)
 below_same a b es same below = subst (λ (k : List ℕ). T (below_all key_cmp k es)) (sym same) below
 
-below_change : (x name : List ℕ) (inode : Option Inode) (rows : List Row) → T (is_lt (key_cmp x name)) → T (below_all key_cmp x rows) → T (below_all key_cmp x (with_change name inode rows))
+below_change : (x name : List ℕ) (inode : Option Inode) (rows : List NamedInode) → T (is_lt (key_cmp x name)) → T (below_all key_cmp x rows) → T (below_all key_cmp x (with_change name inode rows))
 below_change x name (Some inode) rows less below = both_of _ _ less below
 below_change x name None rows less below = below
 
@@ -26,25 +26,25 @@ below_changes : (x : List ℕ) (ms : List Change) → T (below_all key_cmp x ms)
 below_changes x [] below = tt
 below_changes x (m ∷ ms) below = below_change x m.0 m.1.inode (changed_rows ms) (left_of _ _ below) (below_changes x ms (right_of _ _ below))
 
-below_order : (x : List ℕ) (r : Ordering) (a b c : List Row) → T (below_all key_cmp x a) → T (below_all key_cmp x b) → T (below_all key_cmp x c) → T (below_all key_cmp x (by_order r a b c))
+below_order : (x : List ℕ) (r : Ordering) (a b c : List NamedInode) → T (below_all key_cmp x a) → T (below_all key_cmp x b) → T (below_all key_cmp x c) → T (below_all key_cmp x (by_order r a b c))
 below_order x Less a b c p q s = p
 below_order x Equal a b c p q s = q
 below_order x Greater a b c p q s = s
 
-below_one : (x : List ℕ) (e : Row) (rest : List Change → List Row) → T (is_lt (key_cmp x e.0)) → ((ms : List Change) → T (below_all key_cmp x ms) → T (below_all key_cmp x (rest ms)))
+below_one : (x : List ℕ) (e : NamedInode) (rest : List Change → List NamedInode) → T (is_lt (key_cmp x e.0)) → ((ms : List Change) → T (below_all key_cmp x ms) → T (below_all key_cmp x (rest ms)))
     → (ms : List Change) → T (below_all key_cmp x ms) → T (below_all key_cmp x (merged_one e rest ms))
 below_one x e rest less behind [] below = both_of _ _ less (behind [] tt)
 below_one x e rest less behind (m ∷ ms) below =
     below_order x (key_cmp e.0 m.0) _ _ _ (both_of _ _ less (behind (m ∷ ms) below)) (below_change x m.0 m.1.inode (rest ms) (left_of _ _ below) (behind ms (right_of _ _ below)))
     (below_change x m.0 m.1.inode (merged_one e rest ms) (left_of _ _ below) (below_one x e rest less behind ms (right_of _ _ below)))
 
-below_merged : (x : List ℕ) (es : List Row) (ms : List Change) → T (below_all key_cmp x es) → T (below_all key_cmp x ms) → T (below_all key_cmp x (merged es ms))
+below_merged : (x : List ℕ) (es : List NamedInode) (ms : List Change) → T (below_all key_cmp x es) → T (below_all key_cmp x ms) → T (below_all key_cmp x (merged es ms))
 below_merged x [] ms b c = below_changes x ms c
 below_merged x (e ∷ es) ms b c = below_one x e (merged es) (left_of _ _ b) (λ ns d. below_merged x es ns (right_of _ _ b) d) ms c
 
 -- ---- in order
 
-sorted_change : (name : List ℕ) (inode : Option Inode) (rows : List Row) → T (below_all key_cmp name rows) → T (is_sorted key_cmp rows) → T (is_sorted key_cmp (with_change name inode rows))
+sorted_change : (name : List ℕ) (inode : Option Inode) (rows : List NamedInode) → T (below_all key_cmp name rows) → T (is_sorted key_cmp rows) → T (is_sorted key_cmp (with_change name inode rows))
 sorted_change name (Some inode) rows below sorted = both_of _ _ below sorted
 sorted_change name None rows below sorted = sorted
 
@@ -58,7 +58,7 @@ greater_back a b is = nat_list_cmp_total.antisymm b a ∙ ap ordering_reverse is
 equal_is : (a b : List ℕ) → key_cmp a b ≡ Equal → a ≡ b
 equal_is a b is = exact_bytes a b is
 
-sorted_one : (e : Row) (es : List Row) → T (below_all key_cmp e.0 es) → ((ms : List Change) → T (is_sorted key_cmp ms) → T (is_sorted key_cmp (merged es ms)))
+sorted_one : (e : NamedInode) (es : List NamedInode) → T (below_all key_cmp e.0 es) → ((ms : List Change) → T (is_sorted key_cmp ms) → T (is_sorted key_cmp (merged es ms)))
     → (ms : List Change) → T (is_sorted key_cmp ms) → T (is_sorted key_cmp (merged_one e (merged es) ms))
 sorted_one e es below behind [] sorted = both_of _ _ (below_merged e.0 es [] below tt) (behind [] tt)
 sorted_one e es below behind (m ∷ ms) sorted = go (sorted_one e es below behind ms (right_of _ _ sorted)) (key_cmp e.0 m.0) refl
@@ -71,13 +71,13 @@ sorted_one e es below behind (m ∷ ms) sorted = go (sorted_one e es below behin
         sorted_change m.0 m.1.inode (merged_one e (merged es) ms)
         (below_merged m.0 (e ∷ es) ms (both_of _ _ (is_less _ (greater_back e.0 m.0 is)) (below_chain m.0 e.0 es (greater_back e.0 m.0 is) below)) (left_of _ _ sorted)) rest
 
-merged_sorted : (es : List Row) (ms : List Change) → T (is_sorted key_cmp es) → T (is_sorted key_cmp ms) → T (is_sorted key_cmp (merged es ms))
+merged_sorted : (es : List NamedInode) (ms : List Change) → T (is_sorted key_cmp es) → T (is_sorted key_cmp ms) → T (is_sorted key_cmp (merged es ms))
 merged_sorted [] ms s t = sorted_changes ms t
 merged_sorted (e ∷ es) ms s t = sorted_one e es (left_of _ _ s) (λ ns u. merged_sorted es ns (right_of _ _ s) u) ms t
 
 -- ---- what is found
 
-find_change : (q name : List ℕ) (inode : Option Inode) (rows : List Row) → (q ≡ name → find key_cmp q rows ≡ None) → find key_cmp q (with_change name inode rows) ≡ cond (eq_by_cmp key_cmp q name) inode (find key_cmp q rows)
+find_change : (q name : List ℕ) (inode : Option Inode) (rows : List NamedInode) → (q ≡ name → find key_cmp q rows ≡ None) → find key_cmp q (with_change name inode rows) ≡ cond (eq_by_cmp key_cmp q name) inode (find key_cmp q rows)
 find_change q name (Some inode) rows none = refl
 find_change q name None rows none = go (same_or_apart q name)
   where
@@ -101,7 +101,7 @@ find_changes q (m ∷ ms) sorted =
     ∙ ap (λ (r : Option Inode). cond (eq_by_cmp key_cmp q m.0) m.1.inode r) rest ∙ changed_find q m ms None
 
 -- a row before all the dirty names
-row_first : (q : List ℕ) (e : Row) (es : List Row) (later : Option Mark) → (q ≡ e.0 → later ≡ None) → cond (eq_by_cmp key_cmp q e.0) (Some e.1) (inode_or later (find key_cmp q es)) ≡ inode_or later (find key_cmp q (e ∷ es))
+row_first : (q : List ℕ) (e : NamedInode) (es : List NamedInode) (later : Option Mark) → (q ≡ e.0 → later ≡ None) → cond (eq_by_cmp key_cmp q e.0) (Some e.1) (inode_or later (find key_cmp q es)) ≡ inode_or later (find key_cmp q (e ∷ es))
 row_first q e es later none = go later none (eq_by_cmp key_cmp q e.0) refl
   where
     go : (l : Option Mark) → (q ≡ e.0 → l ≡ None) → (b : Bool) → eq_by_cmp key_cmp q e.0 ≡ b → cond b (Some e.1) (inode_or l (find key_cmp q es)) ≡ inode_or l (cond b (Some e.1) (find key_cmp q es))
@@ -111,10 +111,10 @@ row_first q e es later none = go later none (eq_by_cmp key_cmp q e.0) refl
     go None n false is = refl
 
 -- a row that one of the dirty names replaces
-row_apart : (q : List ℕ) (e : Row) (es : List Row) (b : Bool) → eq_by_cmp key_cmp q e.0 ≡ b → find key_cmp q (e ∷ es) ≡ cond b (Some e.1) (find key_cmp q es)
+row_apart : (q : List ℕ) (e : NamedInode) (es : List NamedInode) (b : Bool) → eq_by_cmp key_cmp q e.0 ≡ b → find key_cmp q (e ∷ es) ≡ cond b (Some e.1) (find key_cmp q es)
 row_apart q e es b is = ap (λ (t : Bool). cond t (Some e.1) (find key_cmp q es)) is
 
-find_one : (q : List ℕ) (e : Row) (es : List Row) → T (below_all key_cmp e.0 es) → ((ms : List Change) → T (is_sorted key_cmp ms) → find key_cmp q (merged es ms) ≡ inode_or (find key_cmp q ms) (find key_cmp q es))
+find_one : (q : List ℕ) (e : NamedInode) (es : List NamedInode) → T (below_all key_cmp e.0 es) → ((ms : List Change) → T (is_sorted key_cmp ms) → find key_cmp q (merged es ms) ≡ inode_or (find key_cmp q ms) (find key_cmp q es))
     → (ms : List Change) → T (is_sorted key_cmp ms) → find key_cmp q (merged_one e (merged es) ms) ≡ inode_or (find key_cmp q ms) (find key_cmp q (e ∷ es))
 find_one q e es below behind [] sorted = ap (λ (r : Option Inode). cond (eq_by_cmp key_cmp q e.0) (Some e.1) r) (behind [] tt)
 find_one q e es below behind (m ∷ ms) sorted = go (find_one q e es below behind ms (right_of _ _ sorted)) (key_cmp e.0 m.0) refl
@@ -122,7 +122,7 @@ find_one q e es below behind (m ∷ ms) sorted = go (find_one q e es below behin
     gone : q ≡ m.0 → find key_cmp q ms ≡ None
     gone same = not_found m.0 q ms same (left_of _ _ sorted)
 
-    at_change : (below : Option Inode) (rows : List Row) → (q ≡ m.0 → below ≡ None) → find key_cmp q rows ≡ inode_or (find key_cmp q ms) below → find key_cmp q (with_change m.0 m.1.inode rows) ≡ inode_or (find key_cmp q (m ∷ ms)) below
+    at_change : (below : Option Inode) (rows : List NamedInode) → (q ≡ m.0 → below ≡ None) → find key_cmp q rows ≡ inode_or (find key_cmp q ms) below → find key_cmp q (with_change m.0 m.1.inode rows) ≡ inode_or (find key_cmp q (m ∷ ms)) below
     at_change under rows none found =
         find_change q m.0 m.1.inode rows (λ same. found ∙ ap (λ (r : Option Mark). inode_or r under) (gone same) ∙ none same)
         ∙ ap (λ (r : Option Inode). cond (eq_by_cmp key_cmp q m.0) m.1.inode r) found ∙ changed_find q m ms under
@@ -147,7 +147,7 @@ find_one q e es below behind (m ∷ ms) sorted = go (find_one q e es below behin
         let less : key_cmp m.0 e.0 ≡ Less = greater_back e.0 m.0 is in
         at_change (find key_cmp q (e ∷ es)) (merged_one e (merged es) ms) (λ same. not_found m.0 q (e ∷ es) same (both_of _ _ (is_less _ less) (below_chain m.0 e.0 es less below))) rest
 
-find_merged : (q : List ℕ) (es : List Row) (ms : List Change) → T (is_sorted key_cmp es) → T (is_sorted key_cmp ms) → find key_cmp q (merged es ms) ≡ inode_or (find key_cmp q ms) (find key_cmp q es)
+find_merged : (q : List ℕ) (es : List NamedInode) (ms : List Change) → T (is_sorted key_cmp es) → T (is_sorted key_cmp ms) → find key_cmp q (merged es ms) ≡ inode_or (find key_cmp q ms) (find key_cmp q es)
 find_merged q [] ms s t = find_changes q ms t
 find_merged q (e ∷ es) ms s t = find_one q e es (left_of _ _ s) (λ ns u. find_merged q es ns (right_of _ _ s) u) ms t
 
@@ -180,7 +180,7 @@ rows_are clean dirty after =
 
 -- ---- lists
 
-pub first_is : {A : Type 0} (es : List A) (x : A) → first_of es ≡ Some x → (rest : List A) × (es ≡ x ∷ rest)
+pub first_is : {A : Type 0} (es : List A) (x : A) → head_of es ≡ Some x → (rest : List A) × (es ≡ x ∷ rest)
 first_is [] x is = absurd cc
 first_is (y ∷ rest) x is = let same : y ≡ x = cc in (rest, ap (λ z. z ∷ rest) same)
 

@@ -14,10 +14,10 @@ use Rattle.dirfrag_codec.specs.EntryRecord.{HasRecord}
 use Rattle.dirfrag_codec.specs.FragmentObject.{Names}
 use Rattle.dirfrag_codec.proofs.ByteKeys.{get_left, get_removed, key_apart, key_same, not_found, one_map, same_or_apart}
 use Rattle.cached_frag.specs.declared.marks.Mark.{Mark}
-use Rattle.cached_frag.specs.Marks.{AreDirtyNames, IsDirtyName, Marks, inode_or, patched, with_mark}
+use Rattle.cached_frag.specs.Marks.{AreDirtyNames, IsDirtyName, Marks, inode_or, patched, with_changed_name}
 use Rattle.cached_frag.proofs.MarkLaws.{get-patched, marked_beside, marked_here}
 use Rattle.cached_frag.specs.Cached.{AreEntries, IsEntry, is_settled, unsettled}
-use Rattle.cached_frag.specs.Settling.{IsTaken, is_at, settled_in, settled_one}
+use Rattle.cached_frag.specs.Settling.{IsTakenFrom, is_at, settled_in, settled_one}
 
 -- ---- what is dirty
 
@@ -86,9 +86,9 @@ none_dirty marks none name mark is = let clash : None ≡ Some mark = sym (get-e
 
 -- ---- what a taken name leaves
 
-module _ (clean after : Names) (old new : Marks) (name : List ℕ) (version : ℕ) (pair : List ℕ × Mark) (taken : IsTaken old new name version (Some pair)) (put : after ≡ with_mark clean pair.0 pair.1.inode) where
-  put_here : after ≡ with_mark clean name pair.1.inode
-  put_here = put ∙ ap (λ (k : List ℕ). with_mark clean k pair.1.inode) taken.0
+module _ (clean after : Names) (old new : Marks) (name : List ℕ) (version : ℕ) (pair : List ℕ × Mark) (taken : IsTakenFrom old new name version (Some pair)) (put : after ≡ with_changed_name clean pair.0 pair.1.inode) where
+  put_here : after ≡ with_changed_name clean name pair.1.inode
+  put_here = put ∙ ap (λ (k : List ℕ). with_changed_name clean k pair.1.inode) taken.0
 
   pub taken_shown : patched after new ≡ patched clean old
   taken_shown = one_map _ _ (λ q. get-patched after new q ∙ go q (same_or_apart q name) ∙ sym (get-patched clean old q))
@@ -96,7 +96,7 @@ module _ (clean after : Names) (old new : Marks) (name : List ℕ) (version : �
       go : (q : List ℕ) → (q ≡ name) ⊎ (q ≡ name → ⊥) → inode_or (map.get new q) (map.get after q) ≡ inode_or (map.get old q) (map.get clean q)
       go q (inl same) =
           let gone : map.get new q ≡ None = ap (λ (m : Marks). map.get m q) taken.3 ∙ ap (λ (k : List ℕ). map.get (map.remove old name) k) same ∙ get_removed old name in
-          let now : map.get after q ≡ pair.1.inode = ap (λ (m : Names). map.get m q) put_here ∙ ap (λ (k : List ℕ). map.get (with_mark clean name pair.1.inode) k) same ∙ marked_here clean name pair.1.inode in
+          let now : map.get after q ≡ pair.1.inode = ap (λ (m : Names). map.get m q) put_here ∙ ap (λ (k : List ℕ). map.get (with_changed_name clean name pair.1.inode) k) same ∙ marked_here clean name pair.1.inode in
           let was : map.get old q ≡ Some pair.1 = ap (λ (k : List ℕ). map.get old k) same ∙ taken.1 in
           ap (λ (r : Option Mark). inode_or r (map.get after q)) gone ∙ now ∙ sym (ap (λ (r : Option Mark). inode_or r (map.get clean q)) was)
       go q (inr apart) =
@@ -109,12 +109,12 @@ module _ (clean after : Names) (old new : Marks) (name : List ℕ) (version : �
     where
       go : (q ≡ name) ⊎ (q ≡ name → ⊥) → IsEntry q inode
       go (inl same) =
-          let now : pair.1.inode ≡ Some inode = sym (ap (λ (m : Names). map.get m q) put_here ∙ ap (λ (k : List ℕ). map.get (with_mark clean name pair.1.inode) k) same ∙ marked_here clean name pair.1.inode) ∙ is in
+          let now : pair.1.inode ≡ Some inode = sym (ap (λ (m : Names). map.get m q) put_here ∙ ap (λ (k : List ℕ). map.get (with_changed_name clean name pair.1.inode) k) same ∙ marked_here clean name pair.1.inode) ∙ is in
           let mark = marks name pair.1 taken.1 in
           subst (λ (k : List ℕ). IsEntry k inode) (sym same) (record { named = mark.named; recorded = subst (λ (o : Option Inode). IfSome o HasRecord) now mark.recorded })
       go (inr apart) = entries q inode (sym (ap (λ (m : Names). map.get m q) put_here ∙ marked_beside clean name pair.1.inode q apart) ∙ is)
 
-pub taken_marks : (old new : Marks) (name : List ℕ) (version : ℕ) (taken : Option (List ℕ × Mark)) → IsTaken old new name version taken → AreDirtyNames old → AreDirtyNames new
+pub taken_marks : (old new : Marks) (name : List ℕ) (version : ℕ) (taken : Option (List ℕ × Mark)) → IsTakenFrom old new name version taken → AreDirtyNames old → AreDirtyNames new
 taken_marks old new name version None is marks q mark found = marks q mark (sym (ap (λ (m : Marks). map.get m q) is.1) ∙ found)
 taken_marks old new name version (Some pair) is marks q mark found = go (same_or_apart q name)
   where

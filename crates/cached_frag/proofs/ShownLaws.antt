@@ -11,9 +11,9 @@ use Rattle.dirfrag_codec.proofs.ByteKeys.{get_beside, get_put, one_map, same_or_
 use Rattle.cached_frag.specs.declared.bases.Base.{Base}
 use Rattle.cached_frag.specs.declared.bases.Base.TheVariants.{Fresh, Stored}
 use Rattle.cached_frag.specs.declared.marks.Mark.{Mark}
-use Rattle.cached_frag.specs.Marks.{AreDirtyNames, Marks, inode_or, patched, with_mark}
+use Rattle.cached_frag.specs.Marks.{AreDirtyNames, Marks, inode_or, patched, with_changed_name}
 use Rattle.cached_frag.proofs.MarkLaws.{get-patched, marked_beside, marked_here}
-use Rattle.cached_frag.specs.Cached.{AreEntries, Cached, IsBased, IsEntry, marked, names_below, shown, shown_over}
+use Rattle.cached_frag.specs.Cached.{AreEntries, Cached, IsBased, IsEntry, marked, names_below, shown_names, shown_over}
 
 -- the names that were fetched are those of the base
 pub below_is : (base : Base) (clean : Names) → IsBased base clean → names_below base clean ≡ clean
@@ -41,20 +41,20 @@ recorded_shown names name o entries is = recorded_if names name entries o (sym i
 
 -- ---- a change of one name
 
-pub patched_insert : (names : Names) (dirty : Marks) (name : List ℕ) (mark : Mark) → patched names (map.insert dirty name mark) ≡ with_mark (patched names dirty) name mark.inode
+pub patched_insert : (names : Names) (dirty : Marks) (name : List ℕ) (mark : Mark) → patched names (map.insert dirty name mark) ≡ with_changed_name (patched names dirty) name mark.inode
 patched_insert names dirty name mark = one_map _ _ (λ q. get-patched names (map.insert dirty name mark) q ∙ go q (same_or_apart q name))
   where
-    go : (q : List ℕ) → (q ≡ name) ⊎ (q ≡ name → ⊥) → inode_or (map.get (map.insert dirty name mark) q) (map.get names q) ≡ map.get (with_mark (patched names dirty) name mark.inode) q
+    go : (q : List ℕ) → (q ≡ name) ⊎ (q ≡ name → ⊥) → inode_or (map.get (map.insert dirty name mark) q) (map.get names q) ≡ map.get (with_changed_name (patched names dirty) name mark.inode) q
     go q (inl same) =
         let found : map.get (map.insert dirty name mark) q ≡ Some mark = ap (λ (a : List ℕ). map.get (map.insert dirty name mark) a) same ∙ get_put dirty name mark in
-        ap (λ (r : Option Mark). inode_or r (map.get names q)) found ∙ sym (marked_here (patched names dirty) name mark.inode) ∙ ap (λ (a : List ℕ). map.get (with_mark (patched names dirty) name mark.inode) a) (sym same)
+        ap (λ (r : Option Mark). inode_or r (map.get names q)) found ∙ sym (marked_here (patched names dirty) name mark.inode) ∙ ap (λ (a : List ℕ). map.get (with_changed_name (patched names dirty) name mark.inode) a) (sym same)
     go q (inr apart) =
         ap (λ (r : Option Mark). inode_or r (map.get names q)) (get_beside dirty name mark q apart) ∙ sym (get-patched names dirty q) ∙ sym (marked_beside (patched names dirty) name mark.inode q apart)
 
-pub shown_marked : (f : Cached) (name : List ℕ) (mark : Mark) → shown (marked f name mark) ≡ with_mark (shown f) name mark.inode
+pub shown_marked : (f : Cached) (name : List ℕ) (mark : Mark) → shown_names (marked f name mark) ≡ with_changed_name (shown_names f) name mark.inode
 shown_marked f name mark = patched_insert (names_below f.base f.clean) f.dirty name mark
 
-pub shown_put : (base : Base) (clean : Names) (dirty new : Marks) (name : List ℕ) (mark : Mark) → new ≡ map.insert dirty name mark → shown_over base clean new ≡ with_mark (shown_over base clean dirty) name mark.inode
+pub shown_put : (base : Base) (clean : Names) (dirty new : Marks) (name : List ℕ) (mark : Mark) → new ≡ map.insert dirty name mark → shown_over base clean new ≡ with_changed_name (shown_over base clean dirty) name mark.inode
 shown_put base clean dirty new name mark same = ap (shown_over base clean) same ∙ patched_insert (names_below base clean) dirty name mark
 
 -- with no dirty names a fragment shows its base

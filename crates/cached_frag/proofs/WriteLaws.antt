@@ -12,7 +12,7 @@ use Rattle.dirfrag_codec.specs.EntryRecord.{entry_bytes}
 use Rattle.dirfrag_codec.proofs.ByteKeys.{get_beside, get_put, key_apart, key_same, not_found, same_or_apart}
 use Rattle.dirfrag_codec.proofs.FragmentLaws.{one_name}
 use Rattle.cached_frag.specs.declared.marks.Mark.{Mark}
-use Rattle.cached_frag.specs.Commit.{gone_of, set_of, with_key, with_keys, with_record, with_records}
+use Rattle.cached_frag.specs.Commit.{gone_of, set_of, with_key, keys_after_marks, with_record, with_records}
 use Rattle.cached_frag.specs.Marks.{Marks}
 
 -- ---- sets
@@ -98,7 +98,7 @@ key_beside : (keys : Keys) (name : List ℕ) (inode : Option Inode) (key : List 
 key_beside keys name (Some inode) key apart = refl
 key_beside keys name None key apart = get_beside keys (entry_key name) tt key apart
 
-get-with_keys : (keys : Keys) (es : List (List ℕ × Mark)) (q : List ℕ) → T (is_sorted key_cmp es) → map.get (with_keys keys es) (entry_key q) ≡ gone_or (find key_cmp q es) (map.get keys (entry_key q))
+get-with_keys : (keys : Keys) (es : List (List ℕ × Mark)) (q : List ℕ) → T (is_sorted key_cmp es) → map.get (keys_after_marks keys es) (entry_key q) ≡ gone_or (find key_cmp q es) (map.get keys (entry_key q))
 get-with_keys keys [] q sorted = refl
 get-with_keys keys (e ∷ es) q sorted = get-with_keys (with_key keys e.0 e.1.inode) es q (right_of _ _ sorted) ∙ go (same_or_apart q e.0)
   where

@@ -31,8 +31,8 @@ abbrev pub shown_over : Base → Names → Marks → Names
 shown_over base names dirty = patched (names_below base names) dirty
 
 -- what a cached fragment shows, over the names that were fetched
-abbrev pub shown : Cached → Names
-shown f = shown_over f.base f.clean f.dirty
+abbrev pub shown_names : Cached → Names
+shown_names f = shown_over f.base f.clean f.dirty
 
 -- a fragment is clean if its object counts and no name is dirty
 abbrev pub is_clean_over : Base → Marks → Bool
@@ -64,7 +64,7 @@ imported f = record f { generation = 0 }
 
 -- what a commit's job takes of a fragment
 abbrev pub snapshot_of : Cached → Snap
-snapshot_of f = record { base = f.base; names = f.dirty; counts = counts_of (shown f) }
+snapshot_of f = record { base = f.base; names = f.dirty; counts = counts_of (shown_names f) }
 
 -- whether the last change of a name is the one that a snapshot has
 abbrev pub is_settled : Option Mark → Option Mark → Bool

@@ -35,13 +35,13 @@ abbrev pub with_key : Keys → List ℕ → Option Inode → Keys
 with_key keys name (Some inode) = keys
 with_key keys name None = map.insert keys (entry_key name) tt
 
-abbrev pub with_keys : Keys → List (List ℕ × Mark) → Keys
-with_keys keys [] = keys
-with_keys keys (e ∷ es) = with_keys (with_key keys e.0 e.1.inode) es
+abbrev pub keys_after_marks : Keys → List (List ℕ × Mark) → Keys
+keys_after_marks keys [] = keys
+keys_after_marks keys (e ∷ es) = keys_after_marks (with_key keys e.0 e.1.inode) es
 
 -- the keys of the removed names
 unfoldable pub gone_of : Marks → Keys
-gone_of marks = with_keys map.empty (map.entries marks)
+gone_of marks = keys_after_marks map.empty (map.entries marks)
 
 -- the keys that a commit removes: none where the object is cleared
 abbrev pub removed_on : Base → Marks → Keys
@@ -49,15 +49,15 @@ removed_on Fresh marks = map.empty
 removed_on (Stored version) marks = gone_of marks
 
 -- the header that a commit writes
-abbrev pub header_after : Snap → FragHeader
-header_after snap = record { version = next_version snap.base; files = snap.counts.files; dirs = snap.counts.dirs }
+abbrev pub header_of_commit : Snap → FragHeader
+header_of_commit snap = record { version = next_version snap.base; files = snap.counts.files; dirs = snap.counts.dirs }
 
 -- the write of a snapshot: on an object that counts, the header, a set of the dirty present names and a removal of the
 -- dirty removed ones; on any other a clear, the header and the sets
 abbrev pub write_of : Snap → WriteOp
 write_of snap = record {
   clear = is_fresh snap.base;
-  header = Some (header_bytes (header_after snap));
+  header = Some (header_bytes (header_of_commit snap));
   set =
       set_of snap.names;
   remove = removed_on snap.base snap.names;

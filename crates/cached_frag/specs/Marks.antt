@@ -26,13 +26,13 @@ inode_or (Some mark) below = mark.inode
 inode_or None below = below
 
 -- names once one of them was given an inode, or removed
-abbrev pub with_mark : Names → List ℕ → Option Inode → Names
-with_mark names name (Some inode) = map.insert names name inode
-with_mark names name None = map.remove names name
+abbrev pub with_changed_name : Names → List ℕ → Option Inode → Names
+with_changed_name names name (Some inode) = map.insert names name inode
+with_changed_name names name None = map.remove names name
 
 abbrev pub with_marks : Names → List (List ℕ × Mark) → Names
 with_marks names [] = names
-with_marks names (e ∷ es) = with_marks (with_mark names e.0 e.1.inode) es
+with_marks names (e ∷ es) = with_marks (with_changed_name names e.0 e.1.inode) es
 
 -- names with the dirty ones replaced or gone
 unfoldable pub patched : Names → Marks → Names

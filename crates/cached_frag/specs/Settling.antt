@@ -19,8 +19,8 @@ settled_in dirty [] = dirty
 settled_in dirty (e ∷ es) = settled_in (settled_one dirty e.0 e.1.version) es
 
 -- what is taken out
-abbrev pub IsTaken : Marks → Marks → List ℕ → ℕ → Option (List ℕ × Mark) → Type 0
-IsTaken old new name version (Some pair) =
+abbrev pub IsTakenFrom : Marks → Marks → List ℕ → ℕ → Option (List ℕ × Mark) → Type 0
+IsTakenFrom old new name version (Some pair) =
     (pair.0 ≡ name) × (map.get old name ≡ Some pair.1) × (is_at version (map.get old name) ≡ true)
     × (new ≡ map.remove old name)
-IsTaken old new name version None = (is_at version (map.get old name) ≡ false) × (new ≡ old)
+IsTakenFrom old new name version None = (is_at version (map.get old name) ≡ false) × (new ≡ old)

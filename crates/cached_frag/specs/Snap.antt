@@ -28,15 +28,15 @@ IsBelowEnd Fresh = Unit {0}
 IsBelowEnd (Stored version) = version < 2 ^ 64 - 1
 
 -- a fragment with no object shows its dirty names alone
-abbrev pub IsCounted : Base → Marks → EntryCounts → Type 0
-IsCounted Fresh marks counts = counts ≡ counts_of (patched map.empty marks)
-IsCounted (Stored version) marks counts = Unit {0}
+abbrev pub AreCountsIfFresh : Base → Marks → EntryCounts → Type 0
+AreCountsIfFresh Fresh marks counts = counts ≡ counts_of (patched map.empty marks)
+AreCountsIfFresh (Stored version) marks counts = Unit {0}
 
 -- what each snapshot keeps
 pub record IsSnap (snap : Snap) : Type 0 where
   pub dirty : AreDirtyNames snap.names
   pub below : IsBelowEnd snap.base
-  pub counted : IsCounted snap.base snap.names snap.counts
+  pub counted : AreCountsIfFresh snap.base snap.names snap.counts
   pub files : snap.counts.files < 2 ^ 64
   pub dirs : snap.counts.dirs < 2 ^ 64
 

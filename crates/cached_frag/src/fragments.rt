@@ -3,7 +3,7 @@ ghost use Rattle.std.specs.Prelude.{◌≡◌, ◌≤◌, ℕ, List, IsOk, IfOk,
 ghost use Rattle.std.specs.FinMap as map;
 ghost use Rattle.dirfrag_codec.specs.EntryRecord.{HasRecord};
 ghost use Rattle.cached_frag.specs.Snap.{counts_of};
-ghost use Rattle.cached_frag.specs.Cached.{is_clean, shown};
+ghost use Rattle.cached_frag.specs.Cached.{is_clean, shown_names};
 ghost use Rattle.cached_frag.specs.Stores.{nameless};
 
 use crate::bases::{Base, EntryCounts};
@@ -105,7 +105,7 @@ impl CachedFrag {
     /// found there at a comparison or two.
     #[inline(always)]
     pub fn look(&self, near: &Cell<Finger>, name: &Name) -> Option<&Inode>
-        ensures found { option_copied result ≡ map.get (shown self.now) name.now }
+        ensures found { option_copied result ≡ map.get (shown_names self.now) name.now }
         ensures recorded { IfSome (option_copied result) HasRecord }
     {
         match &self.store {
@@ -118,7 +118,7 @@ impl CachedFrag {
     /// Whether a name is there: takes a comparison or two where the finger is that of the name, else logarithmic time.
     #[inline(always)]
     pub fn shows(&self, near: &Finger, name: &Name) -> bool
-        ensures { result ≡ is_some (map.get (shown self.now) name.now) }
+        ensures { result ≡ is_some (map.get (shown_names self.now) name.now) }
     {
         match &self.store {
             Store::Fresh { .. } => false,
@@ -129,7 +129,7 @@ impl CachedFrag {
 
     /// A record allows what each of its names stands for: a law of the type, so nothing is done.
     pub fn has_records(&self)
-        ensures { (name : List ℕ) → IfSome (map.get (shown self.now) name) HasRecord }
+        ensures { (name : List ℕ) → IfSome (map.get (shown_names self.now) name) HasRecord }
     {
         match &self.store {
             Store::Fresh { .. } => {}
@@ -141,7 +141,7 @@ impl CachedFrag {
     /// How many entries it shows.
     #[inline(always)]
     pub fn counts(&self) -> EntryCounts
-        ensures { result ≡ counts_of (shown self.now) }
+        ensures { result ≡ counts_of (shown_names self.now) }
     {
         match &self.store {
             Store::Fresh { .. } => EntryCounts { files: 0, dirs: 0 },
@@ -152,7 +152,7 @@ impl CachedFrag {
 
     /// How many names it shows.
     pub fn len(&self) -> usize
-        ensures { result ≡ map.len (shown self.now) }
+        ensures { result ≡ map.len (shown_names self.now) }
     {
         match &self.store {
             Store::Fresh { .. } => 0,

@@ -1,6 +1,6 @@
 //! A fragment that was fetched.
 ghost use Rattle.std.specs.Prelude.{◌≡◌, ◌≢◌, ◌<◌, ◌⊎◌};
-ghost use Rattle.mds_types.specs.Copies.{IsMade};
+ghost use Rattle.mds_types.specs.Copies.{IsMadeOrLacks};
 ghost use Rattle.std.specs.FinMap as map;
 ghost use Rattle.objstore.specs.Omap.{key_cmp};
 ghost use Rattle.sorted_map.specs.SortedMap.{contents};
@@ -22,7 +22,7 @@ impl CachedFrag {
         names: SortedMap<Name, Inode>,
     ) -> Result<CachedFrag, AllocError>
         requires { AreEntries (contents key_cmp names) }
-        ensures { IsMade (record {
+        ensures { IsMadeOrLacks (record {
           base = Base.Stored version;
           generation = 0;
           clean = contents key_cmp names;

@@ -1,6 +1,6 @@
 //! What became of a dirty name.
 ghost use Rattle.std.specs.Prelude.{◌≡◌, ◌↔◌, IsTrue};
-ghost use Rattle.mds_types.specs.Copies.{IsLink, IsMade};
+ghost use Rattle.mds_types.specs.Copies.{IsLinkInode, IsMadeOrLacks};
 
 use mds_types::Inode;
 use std::alloc::AllocError;
@@ -17,7 +17,7 @@ pub struct Mark {
 impl Mark {
     /// A copy. Takes memory for a link's target alone.
     pub fn try_clone(&self) -> Result<Mark, AllocError>
-        ensures { IsMade self.now (IsLink self.now.inode) result }
+        ensures { IsMadeOrLacks self.now (IsLinkInode self.now.inode) result }
     {
         let inode = match &self.inode {
             Some(inode) => Some(inode.try_clone()?),

@@ -3,7 +3,7 @@ ghost use Rattle.std.specs.Prelude.{◌≡◌, ◌≤◌};
 ghost use Rattle.std.specs.FinMap as map;
 ghost use Rattle.objstore.specs.Omap.{key_cmp};
 ghost use Rattle.sorted_map.specs.SortedMap.{contents};
-ghost use Rattle.cached_frag.specs.Cached.{AreEntries, imported, shown};
+ghost use Rattle.cached_frag.specs.Cached.{AreEntries, imported, shown_names};
 ghost use Rattle.cached_frag.specs.Moving.{Joins};
 
 use crate::fragments::{CachedFrag, Store};
@@ -28,7 +28,7 @@ impl CachedFrag {
     /// (`reserve_settled`).
     pub fn into_names(self) -> SortedMap<Name, Inode>
         requires { map.len self.dirty ≤ self.places }
-        ensures names { contents key_cmp result ≡ shown self }
+        ensures names { contents key_cmp result ≡ shown_names self }
         ensures entries { AreEntries (contents key_cmp result) }
     {
         match self.store {

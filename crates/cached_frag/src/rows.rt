@@ -4,8 +4,8 @@ ghost use Rattle.std.specs.FinMap as map;
 ghost use Rattle.objstore.specs.Omap.{key_cmp};
 ghost use Rattle.sorted_map.specs.SortedMap.{contents};
 ghost use Rattle.cached_frag.specs.Marks.{patched};
-ghost use Rattle.cached_frag.specs.Cached.{shown};
-ghost use Rattle.cached_frag.specs.Rows.{Row, Change, first_of, rows_after, rows_left, with_change};
+ghost use Rattle.cached_frag.specs.Cached.{shown_names};
+ghost use Rattle.cached_frag.specs.Rows.{NamedInode, Change, head_of, rows_after, rows_left, with_change};
 
 use crate::fragments::{CachedFrag, Store};
 use crate::marks::Mark;
@@ -41,7 +41,7 @@ impl<'a, V> Peeked<'a, V> {
 
     // The next pair.
     fn peek(&self) -> Option<&'a (Name, V)>
-        ensures { option_copied result ≡ first_of self.now }
+        ensures { option_copied result ≡ head_of self.now }
     {
         self.next
     }
@@ -120,7 +120,7 @@ impl<'a> Rows<'a> {
         row: &'a (Name, Inode),
         change: &'a (Name, Mark),
     ) -> Option<(&'a Name, Option<&'a Inode>)>
-        requires clean { (rows : List Row) × (self.old.clean ≡ row.now ∷ rows) }
+        requires clean { (rows : List NamedInode) × (self.old.clean ≡ row.now ∷ rows) }
         requires dirty { (changes : List Change) × (self.old.dirty ≡ change.now ∷ changes) }
         ensures rows { IfSome result
             (λ row. rows_left self.old ≡ with_change row.0.now (option_copied row.1) (rows_left self.new)) }
@@ -143,7 +143,7 @@ impl<'a> Rows<'a> {
 impl CachedFrag {
     /// The names that it shows and that are greater than one; all, if none is given.
     pub fn rows_after(&self, after: Option<&Name>) -> Rows<'_>
-        ensures { rows_left result ≡ rows_after (option_copied after.entry) (map.entries (shown self.now)) }
+        ensures { rows_left result ≡ rows_after (option_copied after.entry) (map.entries (shown_names self.now)) }
     {
         match &self.store {
             Store::Fresh { .. } => Rows::none(),
@@ -161,10 +161,10 @@ impl CachedFrag {
         max: PageSize,
     ) -> Result<(Listing, bool), AllocError>
         ensures listed { IfOk result
-            (λ page. page.0 ≡ take max (rows_after (option_copied after.entry) (map.entries (shown self.now)))) }
+            (λ page. page.0 ≡ take max (rows_after (option_copied after.entry) (map.entries (shown_names self.now)))) }
         ensures more { IfOk result
             (λ page. page.1 ≡ nat_lt max (length (rows_after (option_copied after.entry)
-            (map.entries (shown self.now))))) }
+            (map.entries (shown_names self.now))))) }
     {
         first_rows(alloc, self.rows_after(after), max)
     }

@@ -1,7 +1,7 @@
 //! What a commit leaves of a fragment.
 ghost use Rattle.std.specs.Prelude.{◌≡◌, ◌≤◌, IsOk, IfOk, OnOk, OnErr};
 ghost use Rattle.std.specs.FinMap as map;
-ghost use Rattle.cached_frag.specs.Cached.{shown, unsettled};
+ghost use Rattle.cached_frag.specs.Cached.{shown_names, unsettled};
 ghost use Rattle.cached_frag.specs.Stores.{nameless};
 
 use crate::bases::Base;
@@ -45,7 +45,7 @@ impl CachedFrag {
         ensures dirty { self.new.dirty ≡ unsettled self.old.dirty names.now }
         ensures base { self.new.base ≡ Base.Stored version }
         ensures generation { self.new.generation ≡ self.old.generation }
-        ensures shown { shown self.new ≡ shown self.old }
+        ensures shown_names { shown_names self.new ≡ shown_names self.old }
     {
         match &mut self.store {
             Store::Fresh { alloc, generation } => {

@@ -2,7 +2,7 @@
 ghost use Rattle.std.specs.Prelude.{◌≡◌, IfOk, IfSome, OnOk};
 ghost use Rattle.dirfrag_codec.specs.EntryRecord.{HasRecord};
 ghost use Rattle.dirfrag_codec.specs.FragHeader.{header_bytes};
-ghost use Rattle.cached_frag.specs.Commit.{gone_of, header_after, removed_on, set_of, with_key, with_record, write_of};
+ghost use Rattle.cached_frag.specs.Commit.{gone_of, header_of_commit, removed_on, set_of, with_key, with_record, write_of};
 
 use crate::bases::Base;
 use crate::dirty_names::DirtyNames;
@@ -52,7 +52,7 @@ fn changes_of(alloc: Global, snapshot: &Snapshot) -> Result<(Pairs, KeySet), All
 
 // The bytes of the header that a commit of the snapshot writes.
 fn header_after(alloc: Global, snapshot: &Snapshot) -> Result<Bytes, AllocError>
-    ensures { IfOk result (λ bytes. bytes ≡ header_bytes (header_after snapshot.now)) }
+    ensures { IfOk result (λ bytes. bytes ≡ header_bytes (header_of_commit snapshot.now)) }
 {
     let counts = snapshot.counts();
     let header = FragHeader {

@@ -1,5 +1,5 @@
 -- A book stays sound where a request is applied.
-use Rattle.cluster_core.proofs.Common.{Answer, AreCached, AreExported, AreRoots, AreSupplied, Bool, Core, Entry, Ino, IsApplied, IsFresh, IsLawfulFrom, IsNextFrom, IsSoundWith, IsSound, IsSupplied, IsSupply, List, None, Opening, Option, Outcome, Rank, Request, Some, State, Supply, Tree, [], after_from, after_taking, ap, arith, cond, end_number, entry_of, eqb, eqb-false, eqb-true, false, first_number, get_or, get_or-set_other, get_or-set_same, is_some, length, length-set, nat_lt, nat_tests, no_supply, number_of, number_or, offer, outcome_of, refl, set, shown, step, supply_of, sym, table-push, true, true≢false, unused, with_entry, with_waiting, ℕ, ⊎_elim, ◌++◌, ◌<◌, ◌∙◌, ◌∷◌, ◌≡◌, ◌≢◌, ◌≤◌}
+use Rattle.cluster_core.proofs.Common.{Answer, AreCached, AreExported, AreRoots, AreSupplied, Bool, Core, Entry, Ino, IsApplied, IsFresh, IsLawfulFrom, IsNextFrom, IsSoundWith, IsSound, IsSupplied, IsSupply, List, None, Opening, Option, Outcome, Rank, Request, Some, State, Supply, Tree, [], after_from, after_taking, ap, arith, cond, end_number, entry_of, eqb, eqb-false, eqb-true, false, first_number, get_or, get_or-set_other, get_or-set_same, is_some, length, length-set, nat_lt, nat_tests, no_supply, number_taken, number_or, offer, outcome_of, refl, set, shown, step, supply_of, sym, table-push, true, true≢false, unused, with_entry, with_waiting, ℕ, ⊎_elim, ◌++◌, ◌<◌, ◌∙◌, ◌∷◌, ◌≡◌, ◌≢◌, ◌≤◌}
 use Rattle.cluster_core.proofs.OpeningLaws.{after_from-push, legal_from-push, used_from-push}
 
 -- what an offer of a number comes to: the table took it, or it took none and the outcome is that of any number
@@ -33,7 +33,7 @@ taking limit tree request s false true below takes numbered = absurd (true≢fal
 
 -- what a request that is applied takes
 taking_of : (state : State) (rank : Rank) (request : Request) → (offer (supply_of state rank) ≡ None → (outcome_of state rank request).takes ≡ false)
-    → IsTaking state.tree.limit (shown state) request (supply_of state rank) (number_of state rank request) (outcome_of state rank request)
+    → IsTaking state.tree.limit (shown state) request (supply_of state rank) (number_taken state rank request) (outcome_of state rank request)
 taking_of state rank request numbered =
     let s = supply_of state rank in
     taking state.tree.limit (shown state) request s (nat_lt s.next (end_number s.rank)) (outcome_of state rank request).takes (λ e. grind (arith, nat_tests)) refl numbered

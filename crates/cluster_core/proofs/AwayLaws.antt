@@ -1,5 +1,5 @@
 -- The first of the leaves that are to start for another rank.
-use Rattle.cluster_core.proofs.Common.{Equal, Greater, IsAwayTo, IsBehind, IsFirst, IsFirstAway, IsFirstStep, IsLeast, IsNext, IsProposable, IsSome, Leaf, Less, None, OfPin, Option, Ordering, Rank, Roots, Sight, Some, Start, ap, cond, false, inl, inr, is_after, is_lt, is_some, leaf-exact, leaf-total, leaf_cmp, lesser_candidate, ordering_reverse, refl, subst, sym, true, ◌∙◌, ◌≡◌, ◌⊎◌}
+use Rattle.cluster_core.proofs.Common.{Equal, Greater, IsAwayTo, IsBehind, IsFirst, IsFirstAway, IsFirstStep, IsLeast, IsNextLeaf, IsProposable, IsSome, Leaf, Less, None, OfPin, Option, Ordering, Rank, Roots, Sight, Some, Start, ap, cond, false, inl, inr, is_leaf_after, is_lt, is_some, leaf-exact, leaf-total, leaf_cmp, lesser_candidate, ordering_reverse, refl, subst, sym, true, ◌∙◌, ◌≡◌, ◌⊎◌}
 use Rattle.std.specs.FinMap as map
 use Rattle.cluster_core.proofs.WalkLaws.{IsWalked, ended, found, passed}
 
@@ -11,17 +11,17 @@ module _ (s : Sight) (Place : Leaf → Type 0) where
   place_of : (leaf : Leaf) → Starts s Place leaf → Place leaf
   place_of leaf starts = starts.1
 
-  pub away_found : (after : Option Leaf) (leaf : Leaf) (to : Rank) → IsWalked (Starts s Place) after → IsNext Place after (Some leaf) → IsAwayTo s leaf to → IsFirstAway s Place (Some (leaf, to))
+  pub away_found : (after : Option Leaf) (leaf : Leaf) (to : Rank) → IsWalked (Starts s Place) after → IsNextLeaf Place after (Some leaf) → IsAwayTo s leaf to → IsFirstAway s Place (Some (leaf, to))
   away_found after leaf to walked next away = (next.is, away, λ other another place its. found Place (Starts s Place) place_of after leaf walked next other (another, place, its))
 
-  pub away_passed : (after : Option Leaf) (leaf : Leaf) → IsWalked (Starts s Place) after → IsNext Place after (Some leaf) → ((to : Rank) → IsAwayTo s leaf to → ⊥) → IsWalked (Starts s Place) (Some leaf)
+  pub away_passed : (after : Option Leaf) (leaf : Leaf) → IsWalked (Starts s Place) after → IsNextLeaf Place after (Some leaf) → ((to : Rank) → IsAwayTo s leaf to → ⊥) → IsWalked (Starts s Place) (Some leaf)
   away_passed after leaf walked next none = passed Place (Starts s Place) place_of after leaf walked next (λ starts. none starts.0 starts.2)
 
-  pub away_none : (after : Option Leaf) → IsWalked (Starts s Place) after → IsNext Place after None → IsFirstAway s Place None
+  pub away_none : (after : Option Leaf) → IsWalked (Starts s Place) after → IsNextLeaf Place after None → IsFirstAway s Place None
   away_none after walked none = λ leaf to place away. ended Place (Starts s Place) place_of after walked none leaf (to, place, away)
 
 -- the next root, in these words
-is_behind : (after : Option Leaf) (leaf : Leaf) → is_after after leaf ≡ true → IsBehind after leaf
+is_behind : (after : Option Leaf) (leaf : Leaf) → is_leaf_after after leaf ≡ true → IsBehind after leaf
 is_behind None leaf is = tt
 is_behind (Some one) leaf is = go (leaf_cmp one leaf) is
   where
@@ -30,14 +30,14 @@ is_behind (Some one) leaf is = go (leaf_cmp one leaf) is
     go Equal is = let clash : false ≡ true = is in cc
     go Greater is = let clash : false ≡ true = is in cc
 
-behind_is : (after : Option Leaf) (leaf : Leaf) → IsBehind after leaf → is_after after leaf ≡ true
+behind_is : (after : Option Leaf) (leaf : Leaf) → IsBehind after leaf → is_leaf_after after leaf ≡ true
 behind_is None leaf is = refl
 behind_is (Some one) leaf is = ap is_lt is
 
 abbrev pub IsRootOf : Roots → Leaf → Type 0
 IsRootOf roots leaf = IsSome (map.get roots leaf)
 
-pub next_of_roots : (roots : Roots) (after : Option Leaf) (next : Option Leaf) → IsFirst roots (is_after after) next → IsNext (IsRootOf roots) after next
+pub next_of_roots : (roots : Roots) (after : Option Leaf) (next : Option Leaf) → IsFirst roots (is_leaf_after after) next → IsNextLeaf (IsRootOf roots) after next
 next_of_roots roots after (Some leaf) first = record { is = first.1; behind = is_behind after leaf first.0; least = λ other is behind. first.2 other (behind_is after other behind) is }
 next_of_roots roots after None none = λ leaf is behind. let clash : true ≡ false = sym is ∙ ap is_some (none leaf (behind_is after leaf behind)) in cc
 

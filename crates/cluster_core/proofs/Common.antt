@@ -18,7 +18,7 @@ pub use Rattle.cluster_core.specs.OneThread.{Agree, InOrder, IsAskedFor, IsHeld,
 pub use Rattle.cluster_core.proofs.Records.{AddsAtServe, AddsTo, IsOfHistory, Records}
 pub use Rattle.cluster_core.specs.Runs.{IsRun, Runs, StepsBook}
 pub use Rattle.cluster_core.specs.Opening.{IsGiven, IsLawfulFrom, IsLegalFrom, IsNextFrom, IsUsedFrom, Opening, after_from, fresh, since}
-pub use Rattle.cluster_core.specs.Serve.{AppliesRequest, AtFront, CarryLeaves, FollowPlanned, ForwardsTo, HasLeft, IsApplied, IsDeferred, IsForwarded, IsLeft, IsNoted, IsRepeated, IsTakenOut, LeavesRefused, MakesPlanned, RefusesRequest, Repeats, Replies, ServesInbox, ServesRequest, entry_of, number_of, outcome_of, went_with, with_entry, without_gone, without_request}
+pub use Rattle.cluster_core.specs.Serve.{AppliesRequest, AtFront, CarryLeaves, FollowPlanned, ForwardsTo, HasLeft, IsApplied, IsDeferred, IsForwarded, IsLeft, IsNoted, IsRepeated, IsTakenOut, LeavesRefused, MakesPlanned, RefusesRequest, Repeats, Replies, ServesInbox, ServesRequest, entry_of, number_taken, outcome_of, went_with, with_entry, without_gone, without_request}
 pub use Rattle.cluster_core.specs.Settled.{AreSettled, IsAway, IsCalm, IsCalmIn, IsCalmOp, HasSettled, KeepsSettled}
 pub use Rattle.cluster_core.specs.Sound.{AreCached, AreExported, AreRanks, AreSupplied, IsFresh, IsSound, IsSoundBehind, IsSoundBook, IsSoundKept, IsSoundWith, IsSupplied, StandsBehind}
 pub use Rattle.cluster_core.specs.State.{BookState, Core, KeptState, State, core_of, new_state, no_supply, places_of, shown, state_of, supply_of, whole_of, whole_supplies, with_sessions}
@@ -34,10 +34,10 @@ pub use Rattle.dentry_cache.proofs.FrameLaws.{came_ranks, came_weaker}
 pub use Rattle.dentry_cache.proofs.ReadsLaws.{here_is, reads_then, reads_weaker}
 pub use Rattle.dentry_cache.proofs.UncleanLaws.{get_unclean}
 pub use Rattle.dentry_cache.specs.Cache.{HasCached, Unsaved, unsaved_of}
-pub use Rattle.dentry_cache.specs.CacheMap.{AreCaches, At, CacheMap, at, at_rank, here, no_caches, order, unsaved_at}
+pub use Rattle.dentry_cache.specs.CacheMap.{AreCaches, At, CacheMap, lies_by, at_rank, here, no_caches, order, unsaved_at}
 pub use Rattle.dentry_cache.specs.Came.{Came, NoneEnds}
 pub use Rattle.dentry_cache.specs.Came.Came.{stays}
-pub use Rattle.dentry_cache.specs.Candidates.{IsBehind, IsLargeIn, IsNext, IsSmallIn, child, sizes_at}
+pub use Rattle.dentry_cache.specs.Candidates.{IsBehind, IsLargeIn, IsNextLeaf, IsSmallIn, child, sizes_at}
 pub use Rattle.dentry_cache.specs.Loading.{object_of}
 pub use Rattle.dirfrag_codec.specs.EntryRecord.{IsRankNumber}
 pub use Rattle.export_steps.specs.ByExporter.{IsNextOf}
@@ -52,7 +52,7 @@ pub use Rattle.fragtree.proofs.TreeLaws.{pick_from_leaf}
 pub use Rattle.fragtree.specs.FragTree.{CanMerge, CanSplit, HasLeaf, IsChild, IsPick, IsTree, RefusesMerge, RefusesSplit, leaves_inside, lies_inside}
 pub use Rattle.inboxes.specs.Inbox.{rotated}
 pub use Rattle.inboxes.specs.Inboxes.{Arrives, Inboxes, TakesAt, first_waiting, waiting_at, with_last, with_waiting}
-pub use Rattle.inboxes.specs.Pins.{is_on, is_pin}
+pub use Rattle.inboxes.specs.Pins.{is_on, is_same_grant}
 pub use Rattle.inboxes.specs.declared.pins.Pin.{Pin}
 pub use Rattle.inode_table.proofs.Chains.{climbed, nearer}
 pub use Rattle.inode_table.proofs.TableLaws.{known_is}
@@ -178,5 +178,5 @@ pub use Rattle.subtree_map.proofs.Nearest.{one_authority, some_authority}
 pub use Rattle.subtree_map.proofs.Options.{not_none, one_value}
 pub use Rattle.subtree_map.specs.Authority.{HasAuthority, IsSubtrees, NearestRoot, Roots, itself}
 pub use Rattle.subtree_map.specs.Changes.{HaveOneAuthority, IsRootMerge, IsRootSplit, Subtrees, is_inside}
-pub use Rattle.subtree_map.specs.Lists.{is_after}
+pub use Rattle.subtree_map.specs.Lists.{is_leaf_after}
 pub use Rattle.subtree_map.specs.Rows.{IsFirst}

@@ -1,5 +1,5 @@
 -- Whether a rank may change the leaves of a change, from leaf to leaf.
-use Rattle.cluster_core.proofs.Common.{Bool, Carries, Change, Contains, Contains-from_range, Covers, Dentry, Dirfrag, Fragment, HasLeaf, HoldsAt, IfSome, Ino, Inode, IsFragment, IsFrozen, IsPick, IsTree, IsTrue, LacksOneOf, List, MatchBool, MayTouchEach, MayTouchIn, None, Option, Pin, Rank, Roots, Some, Spot, Standing, Tree, [], arith, cases_lt, cond, contains_start, dentry_at, directory_at, directory_gone, ends_low, entry_stands, false, first, first_or_later, grant_of, holding, in_directory, inl, inr, is_dir_kind, is_directory, is_fragment, is_pin, later, leaf_of, list_any, map, none_in, one_authority, range_from_Contains, refl, span, subst, sym, thawed_rules, true, ℕ, ◌%◌, ◌++◌, ◌+◌, ◌<◌, ◌^◌, ◌↔◌, ◌∙◌, ◌∷◌, ◌≡◌, ◌≤◌, ◌⊎◌}
+use Rattle.cluster_core.proofs.Common.{Bool, Carries, Change, Contains, Contains-from_range, Covers, Dentry, Dirfrag, Fragment, HasLeaf, HoldsAt, IfSome, Ino, Inode, IsFragment, IsFrozen, IsPick, IsTree, IsTrue, LacksOneOf, List, MatchBool, MayTouchEach, MayTouchIn, None, Option, Pin, Rank, Roots, Some, Spot, Standing, Tree, [], arith, cases_lt, cond, contains_start, dentry_at, directory_at, directory_gone, ends_low, entry_stands, false, first, first_or_later, grant_of, holding, in_directory, inl, inr, is_dir_kind, is_directory, is_fragment, is_same_grant, later, leaf_of, list_any, map, none_in, one_authority, range_from_Contains, refl, span, subst, sym, thawed_rules, true, ℕ, ◌%◌, ◌++◌, ◌+◌, ◌<◌, ◌^◌, ◌↔◌, ◌∙◌, ◌∷◌, ◌≡◌, ◌≤◌, ◌⊎◌}
 use Rattle.std.specs.FinMap as map_of
 use Rattle.mds_types.specs.Frag.{Contains as ContainsHash}
 use Rattle.subtree_map.specs.Authority.{Leaf}
@@ -58,11 +58,11 @@ module _ (tree : TreeState) (roots : Roots) (exports : Standing) (pins : List Pi
   by_holding at thawed held same = (thawed, inl (subst (λ (r : Rank). HoldsAt tree roots (record { dir = at.dir; frag = at.frag; rank = r })) same (rules_at at thawed held)))
 
   -- and otherwise one that is granted
-  pub by_grant : (at : Dirfrag) (granted : Bool) → (IsFrozenHere at → ⊥) → HoldsAt tree (holding exports roots) at → (at.rank ≡ rank → ⊥) → granted ≡ list_any (is_pin (grant_of (leaf_of at) client tid)) pins
+  pub by_grant : (at : Dirfrag) (granted : Bool) → (IsFrozenHere at → ⊥) → HoldsAt tree (holding exports roots) at → (at.rank ≡ rank → ⊥) → granted ≡ list_any (is_same_grant (grant_of (leaf_of at) client tid)) pins
       → IsTrue granted ↔ MayTouchIn tree roots exports pins rank client tid (leaf_of at)
   by_grant at granted thawed held other is = (λ told. (thawed, inr (sym is ∙ told)), λ may. go may.1)
     where
-      go : HoldsAt tree roots (record { dir = at.dir; frag = at.frag; rank = rank }) ⊎ (list_any (is_pin (grant_of (leaf_of at) client tid)) pins ≡ true) → IsTrue granted
+      go : HoldsAt tree roots (record { dir = at.dir; frag = at.frag; rank = rank }) ⊎ (list_any (is_same_grant (grant_of (leaf_of at) client tid)) pins ≡ true) → IsTrue granted
       go (inl rules) = absurd (other (one_authority roots tree.homes tree.covers (leaf_of at) at.rank rank (rules_at at thawed held) rules))
       go (inr pinned) = is ∙ pinned
 

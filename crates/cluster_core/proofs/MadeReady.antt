@@ -1,7 +1,7 @@
 -- What was found and why a request isn't made ready, said of the tree before its checks or after them.
 use Rattle.cluster_core.proofs.Common.{Bool, Change, Checked, Checks, Dirfrag, Err, HoldsAt, Ino, IsAsked, IsChangeOf, IsChecked, KeepsRanked, LacksNumber, List, MatchBool, MayTouchAllIn, MustWaitIn, NoMemory, None, Op, Option, Outcome, Pin, Rank, Ranked, Refusal, Request, Roots, Some, Standing, Supply, WhyUnprepared, ap, because, faults_in, held_roots, held_still, inl, inr, keeps_itself, keeps_refused, refl, shown_tree, step, subst, sym, where_refused, ℕ, ◌∙◌, ◌≡◌, ◌⊎◌}
 use Rattle.dentry_cache.specs.Reads.Reads.{stays}
-use Rattle.sessions.specs.Rooms.{Held}
+use Rattle.sessions.specs.Rooms.{HeldSessions}
 use Rattle.cluster_core.specs.declared.parts.Asked.{Asked}
 use Rattle.mdcache.specs.Core.{state_of as tree_state}
 use Rattle.mdcache.specs.State.{State}
@@ -42,7 +42,7 @@ unmade old new op change one reason outcome offered changed followed stand = rec
 }
 
 -- what was found of a request at its master is still so after reads
-pub asked_later : (f g : State) (roots now : Roots) (numbers : List Supply) (sessions : Held) (asked : Asked) (request : Request) → g ≡ f → now ≡ roots → IsAsked f roots numbers sessions asked request → IsAsked g now numbers sessions asked request
+pub asked_later : (f g : State) (roots now : Roots) (numbers : List Supply) (sessions : HeldSessions) (asked : Asked) (request : Request) → g ≡ f → now ≡ roots → IsAsked f roots numbers sessions asked request → IsAsked g now numbers sessions asked request
 asked_later f g roots now numbers sessions asked request follows rooted h =
     subst (λ (s : State). IsAsked s now numbers sessions asked request) (sym follows) (subst (λ (r : Roots). IsAsked f r numbers sessions asked request) (sym rooted) h)
 

@@ -4,7 +4,7 @@ use Rattle.sessions.specs.Table.{no_table}
 use Rattle.std.specs.Prelude.{Contains}
 use Rattle.std.specs.FinMap as finmap
 use Rattle.mdcache.specs.Core.{Core as TreeCore, state_of}
-use Rattle.mdcache.specs.Mounted.{IsNext}
+use Rattle.mdcache.specs.Mounted.{IsNextNumber}
 use Rattle.mdcache.specs.State.{State as TreeState}
 use Rattle.cluster_core.proofs.NewBook.{new_count, stand_alone}
 
@@ -17,7 +17,7 @@ entry_numbered (e ∷ es) n (zero, below, is) = (e, inl refl, is)
 entry_numbered (e ∷ es) n (suc k, below, is) = let w = entry_numbered es n (k, omega (arith, below), is) in (w.0, inr w.1, w.2)
 
 -- of a rank's range only numbers below its next are used, where nothing was applied
-fresh_from : (opening : Tree) (s : Supply) → IsNext opening s → IsFresh (fresh opening) [] s
+fresh_from : (opening : Tree) (s : Supply) → IsNextNumber opening s → IsFresh (fresh opening) [] s
 fresh_from opening s next n low high (inl (t, (k, below, is), from, to, less)) = absurd (omega (arith, below))
 fresh_from opening s next n low high (inr (inl one)) = absurd (omega (arith, low, one))
 fresh_from opening s next n low high (inr (inr (inl stands))) =
@@ -29,7 +29,7 @@ fresh_from opening s next n low high (inr (inr (inl stands))) =
 fresh_from opening s next n low high (inr (inr (inr (k, x, below, is, took)))) = absurd (omega (arith, below))
 
 -- the next number is one of the rank's range or its end
-supply_from : (opening : Tree) (s : Supply) → s.rank < 16 → IsNext opening s → IsSupply s
+supply_from : (opening : Tree) (s : Supply) → s.rank < 16 → IsNextNumber opening s → IsSupply s
 supply_from opening s ranked next = go next.tight
   where
     go : (s.next ≡ first_number s.rank) ⊎ ((dentry : Dentry) × (inode : Inode) × IsOfRank opening s.rank dentry inode × (s.next ≡ inode.ino.0 + 1)) → IsSupply s
@@ -67,7 +67,7 @@ whole_from first (s ∷ ss) (suc n) count each =
 whole_numbers : (ranks : ℕ) (ss : List Supply) → AreNumbers finmap.empty ranks ss → ss ≡ whole_supplies 0 ranks
 whole_numbers ranks ss a = whole_from 0 ss ranks a.count (λ k s is. let of = a.nexts k s is in (of.0 ∙ omega arith, first_of s of.1))
   where
-    first_of : (s : Supply) → IsNext finmap.empty s → s.next ≡ first_number s.rank
+    first_of : (s : Supply) → IsNextNumber finmap.empty s → s.next ≡ first_number s.rank
     first_of s next = go next.tight
       where
         go : (s.next ≡ first_number s.rank) ⊎ ((dentry : Dentry) × (inode : Inode) × IsOfRank finmap.empty s.rank dentry inode × (s.next ≡ inode.ino.0 + 1)) → s.next ≡ first_number s.rank

@@ -1,7 +1,7 @@
 -- A book begins sound.
 use Rattle.cluster_core.proofs.Common.{AreCached, AreExported, AreSupplied, Core, IsSoundWith, IsSound, IsSupplied, IsUsedFrom, Leaf, None, Rank, Roots, Some, Standing, StandingExport, State, [], ap, arith, entries-empty, first_number, fresh, get-empty, get_or, inl, inr, leaf_cmp, length, length-replicate, length-set, map, new_are_roots, new_caches, new_state, new_tree, no_caches, no_supply, none_stand, numbers, order, refl, replicate, root_leaf, shown, subst, suc, sym, table-none, whole_supplies, zero, ℕ, ◌+◌, ◌<◌, ◌^◌, ◌∙◌, ◌≡◌, ◌≤◌}
 use Rattle.std.specs.FinMap as finmap
-use Rattle.dentry_cache.specs.CacheMap.{first}
+use Rattle.dentry_cache.specs.CacheMap.{moved_first}
 
 -- no number of a rank is used in an empty book
 unused-empty : (n : ℕ) → 2 ^ 40 ≤ n → IsUsedFrom (fresh finmap.empty) [] n → ⊥
@@ -14,16 +14,16 @@ unused-empty n low (inr (inr (inr (k, x, below, is, took)))) = omega arith
 
 -- ---- supplies
 
-as_many : (first count : ℕ) → length (whole_supplies first count) ≡ count
-as_many first zero = refl
-as_many first (suc more) = ap suc (as_many (suc first) more)
+as_many : (moved_first count : ℕ) → length (whole_supplies moved_first count) ≡ count
+as_many moved_first zero = refl
+as_many moved_first (suc more) = ap suc (as_many (suc moved_first) more)
 
-found_at : (first count k : ℕ) → k < count → get_or (whole_supplies first count) k no_supply ≡ record { rank = first + k; next = first_number (first + k) }
-found_at first zero k below = absurd (omega arith)
-found_at first (suc more) zero below = let same : first ≡ first + 0 = omega arith in ap (λ (r : ℕ). record { rank = r; next = first_number r }) same
-found_at first (suc more) (suc k) below =
-    let same : suc first + k ≡ first + suc k = omega arith in
-    found_at (suc first) more k (omega arith) ∙ ap (λ (r : ℕ). record { rank = r; next = first_number r }) same
+found_at : (moved_first count k : ℕ) → k < count → get_or (whole_supplies moved_first count) k no_supply ≡ record { rank = moved_first + k; next = first_number (moved_first + k) }
+found_at moved_first zero k below = absurd (omega arith)
+found_at moved_first (suc more) zero below = let same : moved_first ≡ moved_first + 0 = omega arith in ap (λ (r : ℕ). record { rank = r; next = first_number r }) same
+found_at moved_first (suc more) (suc k) below =
+    let same : suc moved_first + k ≡ moved_first + suc k = omega arith in
+    found_at (suc moved_first) more k (omega arith) ∙ ap (λ (r : ℕ). record { rank = r; next = first_number r }) same
 
 all_supplied : (ranks : ℕ) → ranks ≤ 16 → AreSupplied (fresh finmap.empty) [] (whole_supplies 0 ranks)
 all_supplied ranks most k below =
@@ -66,4 +66,4 @@ sound-empty core ranks limit some most is tree cached count = record {
 
 -- the caches of a new book are as many as its ranks
 pub new_count : (ranks places : ℕ) → length (new_caches ranks places).used ≡ ranks
-new_count ranks places = length-set (replicate ranks []) 0 (first root_leaf (order (no_caches ranks places) 0)) ∙ length-replicate ranks []
+new_count ranks places = length-set (replicate ranks []) 0 (moved_first root_leaf (order (no_caches ranks places) 0)) ∙ length-replicate ranks []

@@ -1,5 +1,5 @@
 -- Proposals: there is one at most, and its split passes the checks of splits.
-use Rattle.cluster_core.proofs.Common.{CanSplit, DirPins, Event, ExportState, Greater, HasPin, Home, Homes, IsFirstKindOf, IsLarge, IsLargeIn, IsLeast, IsNext, IsNextOf, IsNextStep, IsSmallIn, Kind, Leaf, Less, List, None, OfExport, OfLarge, OfPin, OfSmall, Option, Rank, Sight, Some, Start, Would, WouldNot, [], ap, arith, inherited, inl, inr, leaf-total, leaf_cmp, leaves_of, not_none, one_value, ordering_reverse, own, refl, subst, sym, ℕ, ◌∙◌, ◌∷◌, ◌≡◌, ◌⊎◌}
+use Rattle.cluster_core.proofs.Common.{CanSplit, DirPins, Event, ExportState, Greater, HasPin, Home, Homes, IsFirstKindOf, IsLarge, IsLargeIn, IsLeast, IsNextLeaf, IsNextOf, IsNextStep, IsSmallIn, Kind, Leaf, Less, List, None, OfExport, OfLarge, OfPin, OfSmall, Option, Rank, Sight, Some, Start, Would, WouldNot, [], ap, arith, inherited, inl, inr, leaf-total, leaf_cmp, leaves_of, not_none, one_value, ordering_reverse, own, refl, subst, sym, ℕ, ◌∙◌, ◌∷◌, ◌≡◌, ◌⊎◌}
 use Rattle.export_steps.specs.declared.exports.ExportState.TheVariants as at
 
 -- a directory has at most one effective pin
@@ -72,8 +72,8 @@ split_passes s leaf event large = record {
 pub none_export : (s : Sight) → IsNextOf s.exports s.rank None None → WouldNot s OfExport
 none_export s none root event on = none root on.export on.stands on.exporter tt
 
-pub none_large : (s : Sight) → IsNext (IsLargeIn s.cached) None None → WouldNot s OfLarge
+pub none_large : (s : Sight) → IsNextLeaf (IsLargeIn s.cached) None None → WouldNot s OfLarge
 none_large s none leaf event is = none leaf is.many tt
 
-pub none_small : (s : Sight) → IsNext (IsSmallIn s.cached) None None → WouldNot s OfSmall
+pub none_small : (s : Sight) → IsNextLeaf (IsSmallIn s.cached) None None → WouldNot s OfSmall
 none_small s none whole event is = none whole is.few tt

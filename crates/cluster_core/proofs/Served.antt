@@ -1,5 +1,5 @@
 -- What serving makes of the tree and of what stands beside it, said of the cluster's state.
-use Rattle.cluster_core.proofs.Common.{Answer, Answers, AppliesRequest, Bool, CarryLeaves, Change, ChangesOnly, Checked, Checks, Covers, Deferred, Dirfrag, Entry, Err, FollowPlanned, ForwardsTo, HasLeft, Inboxes, Ino, IsApplied, IsChecked, IsKeptAt, IsLeft, IsMasterIn, IsNew, IsNoted, IsOneOf, IsPrepared, IsTakenOut, IsTrimmed, IsUntouched, LacksNumber, LeavesRefused, List, MakesPlanned, MayTouchAllIn, MustWaitIn, NoInodes, NoMemory, None, Ok, Op, Option, Outcome, Pin, Prepared, Rank, Refusal, RefusesRequest, Repeats, Replies, Reply, Request, Result, Roots, ServesInbox, Some, Standing, State, Supply, Table, Tree, Trimmed, [], after_plan, after_taking, answers, ap, append_assoc, arith, changed_fragments, cond, entry_of, false, fragments_are, fragments_in, inl, inr, is_idle, leaves_of, length, length-append, no_supply, noted, number_of, number_or, offer, refl, root_fragment, set, set-get_or, shown_tree, slice_index_or, state_of, step, subst, supply_of, sym, trimmed, true, went_with, with_entry, with_waiting, without_gone, without_request, ℕ, ◌++◌, ◌+◌, ◌∙◌, ◌∷◌, ◌≡◌, ◌≢◌, ◌⊎◌}
+use Rattle.cluster_core.proofs.Common.{Answer, Answers, AppliesRequest, Bool, CarryLeaves, Change, ChangesOnly, Checked, Checks, Covers, Deferred, Dirfrag, Entry, Err, FollowPlanned, ForwardsTo, HasLeft, Inboxes, Ino, IsApplied, IsChecked, IsKeptAt, IsLeft, IsMasterIn, IsNew, IsNoted, IsOneOf, IsPrepared, IsTakenOut, IsTrimmed, IsUntouched, LacksNumber, LeavesRefused, List, MakesPlanned, MayTouchAllIn, MustWaitIn, NoInodes, NoMemory, None, Ok, Op, Option, Outcome, Pin, Prepared, Rank, Refusal, RefusesRequest, Repeats, Replies, Reply, Request, Result, Roots, ServesInbox, Some, Standing, State, Supply, Table, Tree, Trimmed, [], after_plan, after_taking, answers, ap, append_assoc, arith, changed_fragments, cond, entry_of, false, fragments_are, fragments_in, inl, inr, is_idle, leaves_of, length, length-append, no_supply, noted, number_taken, number_or, offer, refl, root_fragment, set, set-get_or, shown_tree, slice_index_or, state_of, step, subst, supply_of, sym, trimmed, true, went_with, with_entry, with_waiting, without_gone, without_request, ℕ, ◌++◌, ◌+◌, ◌∙◌, ◌∷◌, ◌≡◌, ◌≢◌, ◌⊎◌}
 use Rattle.mds_types.specs.declared.replies.Reply.{Reply as Replied}
 use Rattle.dentry_cache.specs.Cache.{Leaf}
 use Rattle.mdcache.specs.State.{State as TreeState}
@@ -178,7 +178,7 @@ module _ (f : TreeState) (roots : Roots) (exports : Standing) (numbers : List Su
         abbrev entry : Option Ino → Replied → Entry
         entry number reply = record { client = request.client; tid = request.tid; oldest = request.oldest; op = request.op; number = number; reply = reply }
 
-        num : numbers_after ≡ set numbers rank.0 (after_taking (supply_of old rank) (number_of old rank request))
+        num : numbers_after ≡ set numbers rank.0 (after_taking (supply_of old rank) (number_taken old rank request))
         num =
             drawn ∙ ap (λ (n : List Supply). set n rank.0 prepared.numbers) unused
             ∙ ap (set numbers rank.0) (is.drawn ∙ ap (after_taking (supply_of old rank)) is.took)
@@ -199,7 +199,7 @@ module _ (f : TreeState) (roots : Roots) (exports : Standing) (numbers : List Su
               ∙ ap (λ r. Reply request.client request.tid (length past) true r) is.copied;
           numbered = is.numbered;
           appended =
-              noted_now.appended ∙ ap (λ n. middle ++ entry n prepared.reply ∷ []) is.took ∙ ap (λ r. middle ++ entry (number_of old rank request) r ∷ []) is.replied
+              noted_now.appended ∙ ap (λ n. middle ++ entry n prepared.reply ∷ []) is.took ∙ ap (λ r. middle ++ entry (number_taken old rank request) r ∷ []) is.replied
               ∙ ap (λ m. m ++ entry_of old rank request ∷ []) past_is;
           tree = tree ∙ is.leads;
           made = record {

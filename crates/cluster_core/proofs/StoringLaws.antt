@@ -4,7 +4,7 @@ use Rattle.std.specs.Prelude.{Contains}
 use Rattle.std.proofs.lemmas.List.{get_or-append-add, get_or-drop, get_or_past, get_or_push}
 use Rattle.inode_table.specs.Numbers.{IsSupply, end_number, first_number}
 use Rattle.keeping.specs.declared.rows.RowEdit.{RowEdit}
-use Rattle.keeping.specs.Rows.{SessionRows, edited}
+use Rattle.keeping.specs.Rows.{SessionRows, rows_after_edits}
 use Rattle.sessions.proofs.WrittenLaws.{written}
 use Rattle.session_rows.specs.Sessions.{AreNextInos, with_nexts}
 use Rattle.cluster_core.specs.KeptSessions.{AreNextOf, IsOfRanks, IsSpent, RowsTell, TellsBut, Updates, WritesAll}

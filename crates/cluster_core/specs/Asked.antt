@@ -10,7 +10,7 @@ use Rattle.inboxes.specs.declared.pins.Pin.{Pin}
 use Rattle.inode_table.specs.Numbers.{Supply, offer}
 use Rattle.namespace_ops.specs.Checked.{IsChecked}
 use Rattle.namespace_ops.specs.declared.plans.Change.{Change}
-use Rattle.sessions.specs.Rooms.{Held, IsSessionAt}
+use Rattle.sessions.specs.Rooms.{HeldSessions, IsSessionAt}
 use Rattle.sessions.specs.declared.found.SessionAt.{SessionAt}
 use Rattle.subtree_map.specs.Authority.{Roots}
 use Rattle.mdcache.specs.Shown.{shown_tree}
@@ -21,13 +21,13 @@ use Rattle.cluster_core.specs.State.{no_supply}
 use Rattle.cluster_core.specs.declared.parts.Asked.{Asked}
 
 -- this is where a client's session is
-pub record IsSessionOf (sessions : Held) (client : ℕ) (at : SessionAt) : Type 0 where
+pub record IsSessionOf (sessions : HeldSessions) (client : ℕ) (at : SessionAt) : Type 0 where
   pub named : at.client ≡ client
   pub found : IsSessionAt sessions at
 
 -- the rank is the request's master, a directory may have so many entries, the rank has these numbers left, and this is
 -- where the client's session is
-pub record IsAsked (tree : TreeState) (roots : Roots) (numbers : List Supply) (sessions : Held) (asked : Asked)
+pub record IsAsked (tree : TreeState) (roots : Roots) (numbers : List Supply) (sessions : HeldSessions) (asked : Asked)
     (request : Request) : Type 0 where
   pub master : IsMasterIn tree roots asked.rank request.op asked.rank
   pub limit : asked.limit ≡ tree.limit
@@ -41,7 +41,7 @@ IsNewTo history request = IsNew history request.client request.tid request.oldes
 -- the request may be applied with this change, which the checks found: the rank may change all leaves that it would
 -- change
 pub record MayApply (tree : TreeState) (roots : Roots) (exports : Standing) (pins : List Pin) (numbers : List Supply)
-    (sessions : Held) (asked : Asked) (change : Change) (request : Request) : Type 0 where
+    (sessions : HeldSessions) (asked : Asked) (change : Change) (request : Request) : Type 0 where
   pub is_asked : IsAsked tree roots numbers sessions asked request
   pub checked : IsChecked (shown_tree tree) tree.covers (HoldsAt tree (holding exports roots)) request.op
       (number_or (offer asked.supply))

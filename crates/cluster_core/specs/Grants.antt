@@ -11,7 +11,7 @@ use Rattle.export_steps.specs.Holder.{IsFrozen}
 use Rattle.export_steps.specs.Standing.{Standing}
 use Rattle.inboxes.specs.declared.pins.Pin.{Pin}
 use Rattle.inboxes.specs.Inboxes.{first_waiting}
-use Rattle.inboxes.specs.Pins.{with_pin}
+use Rattle.inboxes.specs.Pins.{with_grant}
 use Rattle.subtree_map.specs.Authority.{Leaf, Roots}
 use Rattle.mdcache.specs.State.{State as TreeState}
 use Rattle.cluster_core.specs.declared.events.Answer.{Answer}
@@ -29,7 +29,7 @@ pub record IsGranted (state : State) (rank : Rank) (op : Op) (leaf : Leaf) : Typ
 -- the grants, with one of each of these leaves for this client and number; a grant that exists stays the same
 abbrev pub with_grants : List Pin → List Leaf → (client tid : ℕ) → List Pin
 with_grants pins [] client tid = pins
-with_grants pins (leaf ∷ leaves) client tid = with_grants (with_pin pins (grant_of leaf client tid)) leaves client tid
+with_grants pins (leaf ∷ leaves) client tid = with_grants (with_grant pins (grant_of leaf client tid)) leaves client tid
 
 -- the rank granted the request all of the rank's leaves that it would change: at least one, and none of them frozen;
 -- nothing else changes

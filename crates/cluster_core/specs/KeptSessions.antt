@@ -5,7 +5,7 @@ use Rattle.mds_types.specs.declared.entries.Entry.{Entry}
 use Rattle.mds_types.specs.declared.refusals.Refusal.{Refusal}
 use Rattle.inode_table.specs.Numbers.{Supply, end_number, first_number}
 use Rattle.keeping.specs.declared.rows.RowEdit.{RowEdit}
-use Rattle.keeping.specs.Rows.{SessionRows, edited}
+use Rattle.keeping.specs.Rows.{SessionRows, rows_after_edits}
 use Rattle.sessions.specs.Replies.{AnswerAlike, ArePairsOnce}
 use Rattle.sessions.specs.Restored.{IsRestored, IsStoredBut, IsStoredOf}
 use Rattle.sessions.specs.Stored.{Stored, stand_ins}
@@ -49,7 +49,7 @@ pub record TellsBut (rows : SessionRows) (opening : Opening) (history : List Ent
 -- from rows that tell all but what changed, edits make rows that tell all
 abbrev pub Updates : KeptState → List RowEdit → Type 0
 Updates book edits = (opening : Opening) (past : List Entry) → StandsBehind opening past book → (rows : SessionRows)
-    → TellsBut rows opening (past ++ book.history) book.core → RowsTell (edited edits rows) opening (past ++ book.history)
+    → TellsBut rows opening (past ++ book.history) book.core → RowsTell (rows_after_edits edits rows) opening (past ++ book.history)
 
 -- a book's sessions are kept by edits that a store takes
 pub record KeepsSessions (book : KeptState) (takes : List RowEdit → Type 0) : Type 0 where

@@ -11,7 +11,7 @@ use Rattle.mds_types.specs.Tree.{is_directory}
 use Rattle.export_steps.specs.Holder.{IsFrozen}
 use Rattle.export_steps.specs.Standing.{Standing}
 use Rattle.inboxes.specs.declared.pins.Pin.{Pin}
-use Rattle.inboxes.specs.Pins.{is_pin}
+use Rattle.inboxes.specs.Pins.{is_same_grant}
 use Rattle.inode_table.specs.Dirs.{Covers, leaves_of}
 use Rattle.namespace_ops.specs.Picks.{pick_of}
 use Rattle.namespace_ops.specs.ChangedFragments.{changed_fragments, fragment_of}
@@ -64,7 +64,7 @@ grant_of leaf client tid = record { dir = leaf.0; frag = leaf.1; client = client
 abbrev pub MayTouchIn : TreeState → Roots → Standing → List Pin → Rank → (client tid : ℕ) → Leaf → Type 0
 MayTouchIn tree roots exports pins rank client tid leaf =
     (IsFrozen exports roots tree.homes tree.covers leaf → ⊥)
-    × (Rules tree roots leaf rank ⊎ (list_any (is_pin (grant_of leaf client tid)) pins ≡ true))
+    × (Rules tree roots leaf rank ⊎ (list_any (is_same_grant (grant_of leaf client tid)) pins ≡ true))
 
 -- the leaves that an operation would change now
 abbrev pub would_change_in : TreeState → Op → List Leaf

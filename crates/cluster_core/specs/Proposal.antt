@@ -21,7 +21,7 @@ use Rattle.export_steps.specs.declared.exports.StandingExport.{StandingExport}
 use Rattle.export_steps.specs.ByExporter.{IsNextOf}
 use Rattle.export_steps.specs.Holder.{IsFrozen}
 use Rattle.export_steps.specs.Standing.{Standing}
-use Rattle.dentry_cache.specs.Candidates.{IsLargeIn, IsNext, IsSmallIn, Sizes, child, sizes_at}
+use Rattle.dentry_cache.specs.Candidates.{IsLargeIn, IsNextLeaf, IsSmallIn, Sizes, child, sizes_at}
 use Rattle.ranked_tree.specs.Ranked.{Ranked}
 use Rattle.cluster_core.specs.declared.events.Event.{Event}
 use Rattle.cluster_core.specs.declared.events.Event.TheVariants.{Arrive, Serve, Grant, Split, Merge, CommitBegin, CommitEnd, CommitDrop, CommitTree, Purge, Evict, Start, Freeze, Prep, Send, Import, Finish, Cancel}
@@ -219,8 +219,8 @@ ProposedMergesPass =
 -- if a rank has no candidate of a kind, it proposes nothing of that kind
 pub record NoCandidateNoProposal : Type 0 where
   pub exports : (s : Sight) → IsNextOf s.exports s.rank None None → WouldNot s OfExport
-  pub large : (s : Sight) → IsNext (IsLargeIn s.cached) None None → WouldNot s OfLarge
-  pub small : (s : Sight) → IsNext (IsSmallIn s.cached) None None → WouldNot s OfSmall
+  pub large : (s : Sight) → IsNextLeaf (IsLargeIn s.cached) None None → WouldNot s OfLarge
+  pub small : (s : Sight) → IsNextLeaf (IsSmallIn s.cached) None None → WouldNot s OfSmall
 
 -- ---- words of this crate's own contracts
 

@@ -16,7 +16,7 @@ use Rattle.mds_types.specs.History.{IsTrimmed, IsKeptAt, IsNew}
 use Rattle.inode_table.specs.Dirs.{Covers, leaves_of}
 use Rattle.inboxes.specs.declared.pins.Pin.{Pin}
 use Rattle.inboxes.specs.Inboxes.{Inboxes, waiting_at, with_last, with_waiting}
-use Rattle.inboxes.specs.Pins.{is_for, is_in, left_without}
+use Rattle.inboxes.specs.Pins.{is_for, is_grant_in, left_without}
 use Rattle.inode_table.specs.Numbers.{offer}
 use Rattle.subtree_map.specs.Authority.{Roots}
 use Rattle.sessions.specs.Table.{Table, noted, trimmed}
@@ -41,8 +41,8 @@ outcome_of state rank request =
     step state.tree.limit (shown state) request.op (number_or (offer (supply_of state rank)))
 
 -- the number that the table takes for a request, if it takes one
-abbrev pub number_of : State → Rank → Request → Option Ino
-number_of state rank request = cond (outcome_of state rank request).takes (offer (supply_of state rank)) None
+abbrev pub number_taken : State → Rank → Request → Option Ino
+number_taken state rank request = cond (outcome_of state rank request).takes (offer (supply_of state rank)) None
 
 -- the entry that a request adds to the history
 abbrev pub entry_of : State → Rank → Request → Entry
@@ -51,7 +51,7 @@ entry_of state rank request = record {
   tid = request.tid;
   oldest = request.oldest;
   op = request.op;
-  number = number_of state rank request;
+  number = number_taken state rank request;
   reply = (outcome_of state rank request).reply;
 }
 
@@ -77,7 +77,7 @@ without_request pins request = left_without (is_for request.client request.tid) 
 -- the grants without those on a directory that was removed, if one was
 abbrev pub without_gone : List Pin → Option Ino → List Pin
 without_gone pins None = pins
-without_gone pins (Some dir) = left_without (is_in dir) pins
+without_gone pins (Some dir) = left_without (is_grant_in dir) pins
 
 -- the directory that a planned change removes, if it removes one
 abbrev pub went_with : Option Change → Option Ino
@@ -132,7 +132,7 @@ pub record IsApplied (old new : State) (past now : List Entry) (rank : Rank) (re
     roots = new.roots;
     pins = new.pins;
     inboxes = with_waiting old.inboxes rank rest;
-    numbers = set old.numbers rank.0 (after_taking (supply_of old rank) (number_of old rank request));
+    numbers = set old.numbers rank.0 (after_taking (supply_of old rank) (number_taken old rank request));
     sessions = with_entry old.sessions (length past) (entry_of old rank request);
   }
 

@@ -16,7 +16,7 @@ use Rattle.dentry_cache.specs.Came.{Came, NoneEnds}
 use Rattle.dentry_cache.specs.Reads.{Reads}
 use Rattle.export_steps.specs.declared.exports.StandingExport.{StandingExport}
 use Rattle.inboxes.specs.Inboxes.{first_waiting, waiting_at}
-use Rattle.mdcache.specs.Commits.{leaf_of}
+use Rattle.mdcache.specs.Commits.{leaf_of_job}
 use Rattle.namespace_ops.specs.Changes.{Concerns}
 use Rattle.namespace_ops.specs.Reasons.{IsOfFragments}
 use Rattle.subtree_map.specs.Authority.{Roots}
@@ -133,7 +133,7 @@ UsesStep old new result (Merge rank dir f) =
     UsesThere old new rank (CameAt (λ (rank : Rank). HoldsInside old.state rank dir f)
     (IsMergedHere old.state.tree.covers dir f) old.caches new.caches)
 UsesStep old new result (CommitBegin rank dir f) = UsesThere old new rank (UsesLeaf old new (dir, f))
-UsesStep old new result (CommitEnd encoded) = UsesLeaf old new (leaf_of encoded.job)
+UsesStep old new result (CommitEnd encoded) = UsesLeaf old new (leaf_of_job encoded.job)
 UsesStep old new result (Evict rank) =
     UsesThere old new rank (OnOk result (evicted old.caches rank.0 None ≡ Some new.caches)
     × OnErr result (AsksNone old new))

@@ -4,7 +4,7 @@ ghost use Rattle.std.specs.List.{list_any};
 ghost use Rattle.mds_types.specs.Leaf.{leaf_of};
 ghost use Rattle.mds_types.specs.Tree.{is_directory};
 ghost use Rattle.inboxes.specs.declared.pins.Pin.{Pin as Grant};
-ghost use Rattle.inboxes.specs.Pins.{is_pin};
+ghost use Rattle.inboxes.specs.Pins.{is_same_grant};
 ghost use Rattle.namespace_ops.specs.Changes.{Carries, LieHeld, fragments_of, leaf_put, leaf_taken, leaves, leaves_gone};
 ghost use Rattle.mdcache.specs.Core.{state_of as tree_state};
 ghost use Rattle.mdcache.specs.Shown.{shown_tree};

@@ -1,17 +1,17 @@
 -- The calls of a walk, step by step.
-use Rattle.cold_store.proofs.Common.{Bool, Damaged, Err, Finding, Fragment, IfErr, Ino, IsBadAmong, IsBadLeaf, IsGoodDir, IsGoodLeaf, IsWalkedTo, List, MayFail, MayNotAdd, NoMemory, None, Objects, ObjName, Ok, Omap, Option, Refusal, Result, Shape, Some, StoreFault, [], ap, arith, drop, drop_more, get_or, inl, inr, length, length-take-le, object_of, option_map, refl, result_err, rows_at, rows_from, rows_in, same_Some, slice_get, slice_get-get_or, start, subst, suc, sym, take, take_all, with_rows, zero, ℕ, ◌++◌, ◌+◌, ◌<◌, ◌∙◌, ◌∷◌, ◌≡◌, ◌≤◌}
+use Rattle.cold_store.proofs.Common.{Bool, Damaged, Err, Finding, Fragment, IfErr, Ino, IsBadAmong, IsBadLeaf, IsGoodDir, IsGoodLeaf, IsWalkedTo, List, MayFail, MayNotAdd, NoMemory, None, Objects, ObjName, Ok, Omap, Option, Refusal, Result, Walked, Some, StoreFault, [], ap, arith, drop, drop_more, get_or, inl, inr, length, length-take-le, object_of, option_map, refl, result_err, records_at, records_from, rows_in, same_Some, slice_get, slice_get-get_or, root_alone, subst, suc, sym, take, take_all, with_rows, zero, ℕ, ◌++◌, ◌+◌, ◌<◌, ◌∙◌, ◌∷◌, ◌≡◌, ◌≤◌}
 use Rattle.std.proofs.Common.{◌≢◌}
 use Rattle.mds_types.specs.declared.object_names.ObjName.TheVariants.{Frag as FragOf}
-use Rattle.dirfrag_codec.specs.Values.{tree_of as leaves_spelled}
+use Rattle.dirfrag_codec.specs.Values.{tree_of_bytes as leaves_spelled}
 use Rattle.dentry_cache.proofs.CallLaws.{damaged_not, memory_not, none_called, some_not, told_then}
 use Rattle.dentry_cache.specs.Calls.{AreCalls, calls_to_load}
-use Rattle.cold_store.specs.Calls.{AreDirCalls, AreDirsCalls, AreLeafCalls, AreWalkCalls, Calls, HasRead, IsWhollyRead, TellsNoOther, behind_header, calls_for_tree, found_in, pages_beyond}
+use Rattle.cold_store.specs.Calls.{AreDirCalls, AreDirsCalls, AreLeafCalls, AreWalkCalls, Calls, HasRead, IsWhollyRead, TellsNoOther, behind_header, calls_for_tree, found_in, name_pages_beyond}
 use Rattle.cold_store.proofs.RowLaws.{with_rows-append}
 
 module _ {S : Type 0} (IsCall : Calls S) (objects : Objects) where
   -- ---- leaves
 
-  module _ (d : Ino) (i : ℕ) (fs : List Fragment) (f : Fragment) (less : i < length fs) (at : f ≡ get_or fs i f) (s : Shape) (old : S) where
+  module _ (d : Ino) (i : ℕ) (fs : List Fragment) (f : Fragment) (less : i < length fs) (at : f ≡ get_or fs i f) (s : Walked) (old : S) where
     behind : drop i fs ≡ f ∷ drop (i + 1) fs
     behind = drop_more fs i f less ∙ ap (λ g. g ∷ drop (i + 1) fs) (sym at)
 
@@ -24,25 +24,25 @@ module _ {S : Type 0} (IsCall : Calls S) (objects : Objects) where
     bad_here name bad = subst (λ gs. IsBadAmong objects s d gs name) (sym behind) (inl bad)
 
     -- or goes on behind it
-    pub leaf_goes_on : (t : Shape) → t ≡ with_rows s (rows_at objects (d, f)) → IsGoodLeaf objects s (d, f) → (mid : S) → AreCalls IsCall (calls_to_load f (object_of objects d f)) old None mid
+    pub leaf_goes_on : (t : Walked) → t ≡ with_rows s (records_at objects (d, f)) → IsGoodLeaf objects s (d, f) → (mid : S) → AreCalls IsCall (calls_to_load f (object_of objects d f)) old None mid
         → (told : Option Refusal) (new : S) → AreLeafCalls IsCall objects t d (drop (i + 1) fs) mid told new → AreLeafCalls IsCall objects s d (drop i fs) old told new
     leaf_goes_on t added good mid calls told new rest =
         subst (λ gs. AreLeafCalls IsCall objects s d gs old told new) (sym behind) (inr (good, mid, calls, subst (λ u. AreLeafCalls IsCall objects u d (drop (i + 1) fs) mid told new) added rest))
 
   -- ---- directories
 
-  dirs_calls-snoc : (s : Shape) (ds : List Ino) (d : Ino) (old mid new : S) → AreDirsCalls IsCall objects s ds old mid → IsGoodDir objects (with_rows s (rows_from objects ds)) d
-      → AreDirCalls IsCall objects (with_rows s (rows_from objects ds)) d mid None new → AreDirsCalls IsCall objects s (ds ++ d ∷ []) old new
+  dirs_calls-snoc : (s : Walked) (ds : List Ino) (d : Ino) (old mid new : S) → AreDirsCalls IsCall objects s ds old mid → IsGoodDir objects (with_rows s (records_from objects ds)) d
+      → AreDirCalls IsCall objects (with_rows s (records_from objects ds)) d mid None new → AreDirsCalls IsCall objects s (ds ++ d ∷ []) old new
   dirs_calls-snoc s [] d old mid new before good calls = (good, new, subst (λ (x : S). AreDirCalls IsCall objects s d x None new) before calls, refl)
   dirs_calls-snoc s (e ∷ ds) d old mid new before good calls = (
     before.0,
     before.1,
     before.2,
-    dirs_calls-snoc (with_rows s (rows_in objects e)) ds d before.1 mid new before.3 (subst (λ u. IsGoodDir objects u d) (with_rows-append s (rows_in objects e) (rows_from objects ds)) good)
-        (subst (λ u. AreDirCalls IsCall objects u d mid None new) (with_rows-append s (rows_in objects e) (rows_from objects ds)) calls),
+    dirs_calls-snoc (with_rows s (rows_in objects e)) ds d before.1 mid new before.3 (subst (λ u. IsGoodDir objects u d) (with_rows-append s (rows_in objects e) (records_from objects ds)) good)
+        (subst (λ u. AreDirCalls IsCall objects u d mid None new) (with_rows-append s (rows_in objects e) (records_from objects ds)) calls),
   )
 
-  module _ (found : Finding) (next : ℕ) (w : IsWalkedTo objects found next) (old mid : S) (calls : AreDirsCalls IsCall objects start (take next found.shape.queue) old mid) where
+  module _ (found : Finding) (next : ℕ) (w : IsWalkedTo objects found next) (old mid : S) (calls : AreDirsCalls IsCall objects root_alone (take next found.shape.queue) old mid) where
     abbrev done : List Ino
     done = take next found.shape.queue
 
@@ -50,7 +50,7 @@ module _ {S : Type 0} (IsCall : Calls S) (objects : Objects) where
     long = length-take-le next found.shape.queue w.within
 
     queue_is : (found_in objects done).queue ≡ found.shape.queue
-    queue_is = ap (λ (t : Shape). t.queue) (sym w.walked)
+    queue_is = ap (λ (t : Walked). t.queue) (sym w.walked)
 
     is_read : HasRead IsCall objects done old mid
     is_read = record { first = λ i. take (long i) (queue_is i); calls = calls }
@@ -60,14 +60,14 @@ module _ {S : Type 0} (IsCall : Calls S) (objects : Objects) where
       pub dir_ends : (told : Option Refusal) (new : S) → told ≢ None → AreDirCalls IsCall objects found.shape d mid told new → AreWalkCalls IsCall objects old told new
       dir_ends told new ends dir =
           let here : slice_get found.shape.queue next ≡ Some d = slice_get-get_or found.shape.queue next d less ∙ ap Some (sym at) in
-          AreWalkCalls.ends_in done d mid is_read ((λ i. slice_get (queue_is i) (long i)) ∙ here) ends (subst (λ (s : Shape). AreDirCalls IsCall objects s d mid told new) w.walked dir)
+          AreWalkCalls.ends_in done d mid is_read ((λ i. slice_get (queue_is i) (long i)) ∙ here) ends (subst (λ (s : Walked). AreDirCalls IsCall objects s d mid told new) w.walked dir)
 
       -- or goes on behind it
       pub dir_goes_on : (then : Finding) → take (next + 1) then.shape.queue ≡ done ++ d ∷ [] → IsGoodDir objects found.shape d → (new : S) → AreDirCalls IsCall objects found.shape d mid None new
-          → AreDirsCalls IsCall objects start (take (next + 1) then.shape.queue) old new
+          → AreDirsCalls IsCall objects root_alone (take (next + 1) then.shape.queue) old new
       dir_goes_on then taken good new dir =
-          subst (λ ds. AreDirsCalls IsCall objects start ds old new) (sym taken)
-          (dirs_calls-snoc start done d old mid new calls (subst (λ (s : Shape). IsGoodDir objects s d) w.walked good) (subst (λ (s : Shape). AreDirCalls IsCall objects s d mid None new) w.walked dir))
+          subst (λ ds. AreDirsCalls IsCall objects root_alone ds old new) (sym taken)
+          (dirs_calls-snoc root_alone done d old mid new calls (subst (λ (s : Walked). IsGoodDir objects s d) w.walked good) (subst (λ (s : Walked). AreDirCalls IsCall objects s d mid None new) w.walked dir))
 
     -- at the end of the queue all are read
     pub all_read : length found.shape.queue ≤ next → IsWhollyRead IsCall objects found.shape.queue old mid
@@ -132,13 +132,13 @@ module _ {S : Type 0} (IsCall : Calls S) where
 
 -- ---- pages of names
 
-pub few_beyond : (n : ℕ) (ys : List (List ℕ)) → length ys ≤ n → pages_beyond n ys ≡ 0
+pub few_beyond : (n : ℕ) (ys : List (List ℕ)) → length ys ≤ n → name_pages_beyond n ys ≡ 0
 few_beyond zero [] few = refl
 few_beyond (suc n) [] few = refl
 few_beyond zero (y ∷ ys) few = absurd (omega (arith, few))
 few_beyond (suc n) (y ∷ ys) few = few_beyond n ys (omega (arith, few))
 
-pub more_beyond : (n : ℕ) (ys : List (List ℕ)) → n < length ys → pages_beyond n ys ≡ suc (pages_beyond 64 (drop n ys))
+pub more_beyond : (n : ℕ) (ys : List (List ℕ)) → n < length ys → name_pages_beyond n ys ≡ suc (name_pages_beyond 64 (drop n ys))
 more_beyond zero [] less = absurd (omega (arith, less))
 more_beyond zero (y ∷ ys) less = refl
 more_beyond (suc n) [] less = absurd (omega (arith, less))

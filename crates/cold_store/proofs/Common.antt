@@ -1,8 +1,8 @@
 -- Names of other crates, and of this one's definitions, as the proofs of this crate take them.
-pub use Rattle.cold_store.specs.ColdTree.{HasOneColdTree, HasRecords, IsColdLeaf, IsFaulty, IsReached, IsRecord, IsSamePlace, Record, tree_of}
-pub use Rattle.cold_store.specs.Left.{AreLeft, AreNamesOf, EndsNames, IsLastOf, leaf_texts, texts_from, texts_in, with_keys, without_keys}
-pub use Rattle.cold_store.specs.Numbers.{IsNext, IsOfRank, passed, passed_all}
-pub use Rattle.cold_store.specs.Rows.{AreGoodDirs, AreGoodLeaves, Finding, HasPairs, IsBadAmong, IsBadIn, IsBadLeaf, IsBadTree, IsGoodDir, IsGoodLeaf, IsGoodTree, IsIn, IsReady, IsWalkedTo, MayNotAdd, Shape, are_new, cover_in, covers_from, is_met, leaves_at, names_in, rows_at, rows_from, rows_in, rows_of, rows_under, start, with_cover, with_entry, with_rows}
+pub use Rattle.cold_store.specs.ColdTree.{HasOneColdTree, HasRecords, IsColdLeaf, IsFaulty, IsReached, IsRecord, IsSamePlace, Record, tree_object_of}
+pub use Rattle.cold_store.specs.Left.{AreAllBut, AreNamesOf, EndsNames, IsLastOf, leaf_texts, texts_from, texts_in, with_keys, keys_without}
+pub use Rattle.cold_store.specs.Numbers.{IsNextNumber, IsOfRank, passed, passed_all}
+pub use Rattle.cold_store.specs.Rows.{AreGoodDirs, AreGoodLeaves, Finding, HasPairs, IsBadAmong, IsBadIn, IsBadLeaf, IsBadTree, IsGoodDir, IsGoodLeaf, IsGoodTree, IsIn, IsMetDir, IsWalkedTo, MayNotAdd, Walked, are_new, cover_in, covers_from, is_met, stored_leaves, stored_names, records_at, records_from, rows_in, rows_of, rows_under, root_alone, with_cover, walked_with, with_rows}
 pub use Rattle.cold_store.specs.Walked.{IsWalked, MayFail}
 pub use Rattle.dentry_cache.proofs.LoadLaws.{loaded_fits, loaded_is_saved, loaded_shows}
 pub use Rattle.dentry_cache.specs.Loading.{Loads, MayNotLoad, object_of}
@@ -28,7 +28,7 @@ pub use Rattle.mds_types.specs.declared.inodes.Inode.{Inode}
 pub use Rattle.mds_types.specs.declared.object_names.ObjName.{ObjName}
 pub use Rattle.mds_types.specs.declared.refusals.Refusal.{Refusal}
 pub use Rattle.mds_types.specs.declared.refusals.Refusal.TheVariants.{BadSplit, Damaged, Frozen, InboxEmpty, InboxFull, JobOutstanding, NoInodes, NoMemory, NoSuchFrag, NotAuthority, NotClean, NothingToEvict, Pinned, StaleJob, StoreFault, TooManyFrags, Trimmed, WrongExportState}
-pub use Rattle.objstore.specs.Objects.{MayRefuse, NameList, Objects, faults_told, first_names, names_after}
+pub use Rattle.objstore.specs.Objects.{MayRefuse, NameList, Objects, faults_told, first_names, object_names_after}
 pub use Rattle.objstore.specs.Omap.{Keys, Omap, PairMap, PairPage, key_cmp, page_of}
 pub use Rattle.sorted_map.proofs.Filters.{all_kept}
 pub use Rattle.sorted_map.specs.SortedMap.{contents}

@@ -22,21 +22,21 @@ use Rattle.dentry_cache.specs.Ties.{names_at}
 use Rattle.inode_table.specs.declared.dirs.Home.{Home}
 use Rattle.inode_table.specs.Dirs.{Covers, is_known, leaves_of, or_whole}
 use Rattle.inode_table.specs.TreeTable.{HoldsHomes, home_at}
-use Rattle.cold_store.specs.ColdTree.{HasRecords, IsColdLeaf, IsReached, IsRecord, IsSamePlace, Record, SaysLeaves, tree_of}
-use Rattle.cold_store.specs.Rows.{AreGoodDirs, IsIn, Shape, cover_in, covers_from, leaves_at, rows_from, start, with_rows}
+use Rattle.cold_store.specs.ColdTree.{HasRecords, IsColdLeaf, IsReached, IsRecord, IsSamePlace, Record, SaysLeaves, tree_object_of}
+use Rattle.cold_store.specs.Rows.{AreGoodDirs, IsIn, Walked, cover_in, covers_from, stored_leaves, records_from, root_alone, with_rows}
 use Rattle.cold_store.proofs.Members.{in_empty, value_of}
 use Rattle.cold_store.proofs.ObjectLaws.{belongs, good_bare, good_says, said_tree}
 use Rattle.cold_store.proofs.RowLaws.{IsEntryOf, IsHomeOf, dentry_at, dir_among, dirs_of, entry_among, home_among, homes_stand, in_dirs_of, is_dir, one_row, rows_stand}
 use Rattle.cold_store.proofs.StoreRows.{dirs_have, held_of, in_dirs, leaves_are, of_cold_leaf}
 use Rattle.cold_store.proofs.GoodLaws.{IsGood, all_new, each_good, row_among, row_settled}
 
-module _ (objects : Objects) (queue : List Ino) (good : AreGoodDirs objects start queue) (reached : (d : Ino) → IsIn d queue → IsReached objects d.0)
-    (whole : queue ≡ record { 0 = 1 } ∷ dirs_of (rows_from objects queue)) where
+module _ (objects : Objects) (queue : List Ino) (good : AreGoodDirs objects root_alone queue) (reached : (d : Ino) → IsIn d queue → IsReached objects d.0)
+    (whole : queue ≡ record { 0 = 1 } ∷ dirs_of (records_from objects queue)) where
   abbrev rows : List Record
-  rows = rows_from objects queue
+  rows = records_from objects queue
 
-  abbrev end : Shape
-  end = with_rows start rows
+  abbrev end : Walked
+  end = with_rows root_alone rows
 
   -- each reached directory was found
   pub found : (d : ℕ) → IsReached objects d → IsIn (record { 0 = d }) queue
@@ -48,14 +48,14 @@ module _ (objects : Objects) (queue : List Ino) (good : AreGoodDirs objects star
   row_of r above rec = dirs_have objects queue r (found r.leaf.0.0 above) rec
 
   good_at : (d : Ino) → IsReached objects d.0 → IsGood objects d
-  good_at d above = each_good objects start queue d good (found d.0 above)
+  good_at d above = each_good objects root_alone queue d good (found d.0 above)
 
   pub whole_leaf : (leaf : Leaf) → IsReached objects leaf.0.0 → IsColdLeaf objects leaf → IsSaved leaf.1 (object_of objects leaf.0 leaf.1)
   whole_leaf leaf above cold = (good_at leaf.0 above).whole leaf.1 (of_cold_leaf objects leaf cold)
 
   pub once : (r q : Record) → IsReached objects r.leaf.0.0 → IsRecord objects r → IsReached objects q.leaf.0.0 → IsRecord objects q → r.inode.ino ≡ q.inode.ino → IsSamePlace r q
   once r q ra rr qa qr same =
-      let one : r ≡ q = one_row start rows r q (all_new objects start queue good) (row_of r ra rr) (row_of q qa qr) (ap (λ (n : Ino). n.0) same) in
+      let one : r ≡ q = one_row root_alone rows r q (all_new objects root_alone queue good) (row_of r ra rr) (row_of q qa qr) (ap (λ (n : Ino). n.0) same) in
       (ap (λ (x : Record). x.leaf) one, ap (λ (x : Record). x.name) one)
 
   -- two records at one dentry are one, since a leaf has only its own names
@@ -67,9 +67,9 @@ module _ (objects : Objects) (queue : List Ino) (good : AreGoodDirs objects star
       let qa = reached q.leaf.0 b.0 in
       let x = belongs r.leaf.1 _ r.name r.inode (whole_leaf r.leaf ra a.1.leaf) (held_of objects r a.1) in
       let y = belongs q.leaf.1 _ q.name q.inode (whole_leaf q.leaf qa b.1.leaf) (held_of objects q b.1) in
-      let tree : IsTree (leaves_at objects q.leaf.0) = subst IsTree (sym (leaves_are objects q.leaf.0 b.1.leaf.0 b.1.leaf.1)) (said_tree (tree_of objects q.leaf.0) b.1.leaf.0 b.1.leaf.1) in
-      let mine : HasLeaf (leaves_at objects q.leaf.0) r.leaf.1 = subst (λ d. HasLeaf (leaves_at objects d) r.leaf.1) dir (of_cold_leaf objects r.leaf a.1.leaf) in
-      let pick = pick_from_leaf (leaves_at objects q.leaf.0) (hash_of q.name) q.leaf.1 tree (of_cold_leaf objects q.leaf b.1.leaf) y in
+      let tree : IsTree (stored_leaves objects q.leaf.0) = subst IsTree (sym (leaves_are objects q.leaf.0 b.1.leaf.0 b.1.leaf.1)) (said_tree (tree_object_of objects q.leaf.0) b.1.leaf.0 b.1.leaf.1) in
+      let mine : HasLeaf (stored_leaves objects q.leaf.0) r.leaf.1 = subst (λ d. HasLeaf (stored_leaves objects d) r.leaf.1) dir (of_cold_leaf objects r.leaf a.1.leaf) in
+      let pick = pick_from_leaf (stored_leaves objects q.leaf.0) (hash_of q.name) q.leaf.1 tree (of_cold_leaf objects q.leaf b.1.leaf) y in
       let frag : r.leaf.1 ≡ q.leaf.1 = pick.alone r.leaf.1 mine (subst (λ n. Contains r.leaf.1 (hash_of n)) name x) in
       let there : Some r.inode ≡ Some q.inode = sym (held_of objects r a.1) ∙ (λ i. map.get (names_at (object_of objects (dir i) (frag i))) (name i)) ∙ held_of objects q b.1 in
       same_Some r.inode q.inode there
@@ -77,7 +77,7 @@ module _ (objects : Objects) (queue : List Ino) (good : AreGoodDirs objects star
   -- ---- the entries
 
   entry : (q : Dentry) (i : Inode) → map.get end.tree q ≡ Some i → IsEntryOf rows q i
-  entry q i stands = go (entry_among start rows q i stands)
+  entry q i stands = go (entry_among root_alone rows q i stands)
     where
       go : (map.get (map.empty {R = dentry_cmp}) q ≡ Some i) ⊎ IsEntryOf rows q i → IsEntryOf rows q i
       go (inl none) = in_empty dentry_cmp q i none
@@ -85,7 +85,7 @@ module _ (objects : Objects) (queue : List Ino) (good : AreGoodDirs objects star
 
   row_stands : (r : Record) → IsIn r rows → map.get end.tree (dentry_at r) ≡ Some r.inode
   row_stands r h =
-      let v = value_of (map.get end.tree (dentry_at r)) (rows_stand start rows r h) in
+      let v = value_of (map.get end.tree (dentry_at r)) (rows_stand root_alone rows r h) in
       let w = entry (dentry_at r) v.0 v.1 in
       let one : w.row.inode ≡ r.inode = one_place w.row r w.among h (ap (λ (p : Dentry). p.dir) w.at) (ap (λ (p : Dentry). p.name) w.at) in
       v.1 ∙ ap Some (sym w.is ∙ one)
@@ -103,7 +103,7 @@ module _ (objects : Objects) (queue : List Ino) (good : AreGoodDirs objects star
   -- ---- the homes
 
   home : (k : ℕ) (h : Home) → map.get end.homes k ≡ Some h → IsHomeOf rows k h
-  home k h is = go (home_among start rows k h is)
+  home k h is = go (home_among root_alone rows k h is)
     where
       go : (map.get (map.empty {R = nat_cmp}) k ≡ Some h) ⊎ IsHomeOf rows k h → IsHomeOf rows k h
       go (inl none) = in_empty nat_cmp k h none
@@ -111,9 +111,9 @@ module _ (objects : Objects) (queue : List Ino) (good : AreGoodDirs objects star
 
   row_home : (r : Record) → IsIn r rows → is_dir r ≡ true → map.get end.homes r.inode.ino.0 ≡ Some (home_at (dentry_at r))
   row_home r h dir =
-      let v = value_of (map.get end.homes r.inode.ino.0) (homes_stand start rows r h dir) in
+      let v = value_of (map.get end.homes r.inode.ino.0) (homes_stand root_alone rows r h dir) in
       let w = home r.inode.ino.0 v.0 v.1 in
-      let one : w.row ≡ r = one_row start rows w.row r (all_new objects start queue good) w.among h w.number in
+      let one : w.row ≡ r = one_row root_alone rows w.row r (all_new objects root_alone queue good) w.among h w.number in
       v.1 ∙ ap Some (sym w.is ∙ ap (λ (y : Record). home_at (dentry_at y)) one)
 
   pub homes_held : HoldsHomes end.tree end.homes
@@ -150,7 +150,7 @@ module _ (objects : Objects) (queue : List Ino) (good : AreGoodDirs objects star
       go (inl root) = subst (λ (k : Ino). is_known end.homes k.0 ≡ true) root refl
       go (inr more) =
           let w = dir_among d rows more in
-          subst (λ (k : Ino). is_known end.homes k.0 ≡ true) w.is (or_right (w.row.inode.ino.0 == 1) _ (homes_stand start rows w.row w.among w.dir))
+          subst (λ (k : Ino). is_known end.homes k.0 ≡ true) w.is (or_right (w.row.inode.ino.0 == 1) _ (homes_stand root_alone rows w.row w.among w.dir))
 
   -- ---- the leaves
 
@@ -170,8 +170,8 @@ module _ (objects : Objects) (queue : List Ino) (good : AreGoodDirs objects star
   leaves_as : (d : Ino) → IsIn d queue → leaves_of covers d.0 ≡ or_whole (cover_in objects d)
   leaves_as d h = ap or_whole (row_settled objects no_rows queue d (inr (get-empty nat_cmp d.0)) h)
 
-  pub found_says : (d : Ino) → IsIn d queue → SaysLeaves (tree_of objects d) (leaves_of covers d.0)
-  found_says d h = subst (SaysLeaves (tree_of objects d)) (sym (leaves_as d h)) (good_says (tree_of objects d) (cover_in objects d) (each_good objects start queue d good h).tree)
+  pub found_says : (d : Ino) → IsIn d queue → SaysLeaves (tree_object_of objects d) (leaves_of covers d.0)
+  found_says d h = subst (SaysLeaves (tree_object_of objects d)) (sym (leaves_as d h)) (good_says (tree_object_of objects d) (cover_in objects d) (each_good objects root_alone queue d good h).tree)
 
-  pub bare : (d : Ino) (object : Omap) → IsIn d queue → tree_of objects d ≡ Some object → object.pairs ≡ map.empty
-  bare d object h there = good_bare (tree_of objects d) (cover_in objects d) object (each_good objects start queue d good h).tree there
+  pub bare : (d : Ino) (object : Omap) → IsIn d queue → tree_object_of objects d ≡ Some object → object.pairs ≡ map.empty
+  bare d object h there = good_bare (tree_object_of objects d) (cover_in objects d) object (each_good objects root_alone queue d good h).tree there

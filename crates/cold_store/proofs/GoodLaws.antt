@@ -10,40 +10,40 @@ use Rattle.fragtree.proofs.TreeLaws.{first_or_later}
 use Rattle.dentry_cache.specs.Loading.{IsSaved, object_of}
 use Rattle.inode_table.specs.Dirs.{Covers}
 use Rattle.std.proofs.Common.{arith}
-use Rattle.cold_store.specs.ColdTree.{tree_of}
-use Rattle.cold_store.specs.Rows.{AreGoodDirs, AreGoodLeaves, IsGoodDir, IsGoodTree, IsIn, Shape, are_new, cover_in, covers_from, leaves_at, rows_at, rows_from, rows_in, rows_under, with_cover, with_rows}
+use Rattle.cold_store.specs.ColdTree.{tree_object_of}
+use Rattle.cold_store.specs.Rows.{AreGoodDirs, AreGoodLeaves, IsGoodDir, IsGoodTree, IsIn, Walked, are_new, cover_in, covers_from, stored_leaves, records_at, records_from, rows_in, rows_under, with_cover, with_rows}
 use Rattle.cold_store.proofs.RowLaws.{are_new-append, with_rows-append}
 
 module _ (objects : Objects) where
-  pub leaves_new : (s : Shape) (d : Ino) (fs : List Fragment) → AreGoodLeaves objects s d fs → are_new s (rows_under objects d fs) ≡ true
+  pub leaves_new : (s : Walked) (d : Ino) (fs : List Fragment) → AreGoodLeaves objects s d fs → are_new s (rows_under objects d fs) ≡ true
   leaves_new s d [] good = refl
-  leaves_new s d (f ∷ fs) good = are_new-append s (rows_at objects (d, f)) (rows_under objects d fs) good.0.new (leaves_new (with_rows s (rows_at objects (d, f))) d fs good.1)
+  leaves_new s d (f ∷ fs) good = are_new-append s (records_at objects (d, f)) (rows_under objects d fs) good.0.new (leaves_new (with_rows s (records_at objects (d, f))) d fs good.1)
 
-  pub leaves_whole : (s : Shape) (d : Ino) (fs : List Fragment) (f : Fragment) → AreGoodLeaves objects s d fs → HasLeaf fs f → IsSaved f (object_of objects d f)
+  pub leaves_whole : (s : Walked) (d : Ino) (fs : List Fragment) (f : Fragment) → AreGoodLeaves objects s d fs → HasLeaf fs f → IsSaved f (object_of objects d f)
   leaves_whole s d [] f good (k, less, is) = absurd (omega (arith, less))
-  leaves_whole s d (g ∷ fs) f good has = go (leaves_whole (with_rows s (rows_at objects (d, g))) d fs f good.1) (first_or_later g f fs has)
+  leaves_whole s d (g ∷ fs) f good has = go (leaves_whole (with_rows s (records_at objects (d, g))) d fs f good.1) (first_or_later g f fs has)
     where
       go : (HasLeaf fs f → IsSaved f (object_of objects d f)) → (g ≡ f) ⊎ HasLeaf fs f → IsSaved f (object_of objects d f)
       go more (inl same) = subst (λ k. IsSaved k (object_of objects d k)) same good.0.whole
       go more (inr rest) = more rest
 
-  pub good-snoc : (s : Shape) (ds : List Ino) (d : Ino) → AreGoodDirs objects s ds → IsGoodDir objects (with_rows s (rows_from objects ds)) d → AreGoodDirs objects s (ds ++ d ∷ [])
+  pub good-snoc : (s : Walked) (ds : List Ino) (d : Ino) → AreGoodDirs objects s ds → IsGoodDir objects (with_rows s (records_from objects ds)) d → AreGoodDirs objects s (ds ++ d ∷ [])
   good-snoc s [] d good last = (last, tt)
   good-snoc s (e ∷ ds) d good last =
-      (good.0, good-snoc (with_rows s (rows_in objects e)) ds d good.1 (subst (λ t. IsGoodDir objects t d) (with_rows-append s (rows_in objects e) (rows_from objects ds)) last))
+      (good.0, good-snoc (with_rows s (rows_in objects e)) ds d good.1 (subst (λ t. IsGoodDir objects t d) (with_rows-append s (rows_in objects e) (records_from objects ds)) last))
 
-  pub all_new : (s : Shape) (ds : List Ino) → AreGoodDirs objects s ds → are_new s (rows_from objects ds) ≡ true
+  pub all_new : (s : Walked) (ds : List Ino) → AreGoodDirs objects s ds → are_new s (records_from objects ds) ≡ true
   all_new s [] good = refl
-  all_new s (d ∷ ds) good = are_new-append s (rows_in objects d) (rows_from objects ds) (leaves_new s d (leaves_at objects d) good.0.leaves) (all_new (with_rows s (rows_in objects d)) ds good.1)
+  all_new s (d ∷ ds) good = are_new-append s (rows_in objects d) (records_from objects ds) (leaves_new s d (stored_leaves objects d) good.0.leaves) (all_new (with_rows s (rows_in objects d)) ds good.1)
 
   -- what stands whatever was found before
   pub record IsGood (d : Ino) : Type 0 where
-    pub tree : IsGoodTree (tree_of objects d) (cover_in objects d)
-    pub whole : (f : Fragment) → HasLeaf (leaves_at objects d) f → IsSaved f (object_of objects d f)
+    pub tree : IsGoodTree (tree_object_of objects d) (cover_in objects d)
+    pub whole : (f : Fragment) → HasLeaf (stored_leaves objects d) f → IsSaved f (object_of objects d f)
 
-  pub each_good : (s : Shape) (ds : List Ino) (d : Ino) → AreGoodDirs objects s ds → IsIn d ds → IsGood d
+  pub each_good : (s : Walked) (ds : List Ino) (d : Ino) → AreGoodDirs objects s ds → IsIn d ds → IsGood d
   each_good s [] d good h = absurd h
-  each_good s (e ∷ ds) d good (inl same) = subst (λ k. IsGood k) same (record { tree = good.0.tree; whole = λ f has. leaves_whole s e (leaves_at objects e) f good.0.leaves has })
+  each_good s (e ∷ ds) d good (inl same) = subst (λ k. IsGood k) same (record { tree = good.0.tree; whole = λ f has. leaves_whole s e (stored_leaves objects e) f good.0.leaves has })
   each_good s (e ∷ ds) d good (inr rest) = each_good (with_rows s (rows_in objects e)) ds d good.1 rest
 
   -- ---- rows of leaves

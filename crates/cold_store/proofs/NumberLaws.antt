@@ -1,5 +1,5 @@
 -- The next number of a rank, from the entries one by one.
-use Rattle.cold_store.proofs.Common.{Bool, Dentry, Inode, IsIn, IsNext, IsOfRank, List, Supply, Tree, [], and_parts, arith, cond, dentry-exact, dentry-total, end_number, false, first_number, inl, inr, nat_le, nat_lt, nat_tests, passed, passed_all, refl, subst, sym, true, ℕ, ◌&&◌, ◌+◌, ◌<◌, ◌∙◌, ◌∷◌, ◌≡◌, ◌≤◌, ◌⊎◌}
+use Rattle.cold_store.proofs.Common.{Bool, Dentry, Inode, IsIn, IsNextNumber, IsOfRank, List, Supply, Tree, [], and_parts, arith, cond, dentry-exact, dentry-total, end_number, false, first_number, inl, inr, nat_le, nat_lt, nat_tests, passed, passed_all, refl, subst, sym, true, ℕ, ◌&&◌, ◌+◌, ◌<◌, ◌∙◌, ◌∷◌, ◌≡◌, ◌≤◌, ◌⊎◌}
 use Rattle.std.specs.FinMap as map
 use Rattle.cold_store.proofs.Members.{entry_of, get_entry}
 
@@ -73,7 +73,7 @@ from_entries next end (e ∷ es) = go (from_entries (passed next end e.1.ino.0) 
     go (inl stays) = head stays (from_one next end e.1.ino.0)
     go (inr w) = let least = w.from in inr (record { entry = w.entry; among = inr w.among; from = omega (arith, least, passes next end e.1.ino.0); before = w.before; is = w.is })
 
-pub is_next : (tree : Tree) (s : Supply) → s.next ≡ passed_all (first_number s.rank) (end_number s.rank) (map.entries tree) → IsNext tree s
+pub is_next : (tree : Tree) (s : Supply) → s.next ≡ passed_all (first_number s.rank) (end_number s.rank) (map.entries tree) → IsNextNumber tree s
 is_next tree s is = record {
   above = λ dentry inode of. subst (λ n. inode.ino.0 < n) (sym is) (above_each (first_number s.rank) (end_number s.rank) (map.entries tree) (dentry, inode) (entry_of dentry-exact tree dentry inode of.stands) of.before);
   tight = go (from_entries (first_number s.rank) (end_number s.rank) (map.entries tree));

@@ -12,10 +12,10 @@ use Rattle.namehash.specs.Rjenkins.{hash_of}
 use Rattle.fragtree.specs.FragTree.{IsTree}
 use Rattle.fragtree.proofs.Kept.{whole_tree}
 use Rattle.dirfrag_codec.specs.EntryRecord.{IsRecordable, SpellsEntry}
-use Rattle.dirfrag_codec.specs.FragmentObject.{Names, names_of}
+use Rattle.dirfrag_codec.specs.FragmentObject.{Names, names_of_pairs}
 use Rattle.dirfrag_codec.specs.Reading.{◌>>=◌}
 use Rattle.dirfrag_codec.specs.TreeObject.{SpellsTree}
-use Rattle.dirfrag_codec.specs.Values.{entry_of, is_name, tree_of as leaves_spelled}
+use Rattle.dirfrag_codec.specs.Values.{inode_of_record, is_name, tree_of_bytes as leaves_spelled}
 use Rattle.dirfrag_codec.proofs.FragmentLaws.{shows_at_each, spells_what_it_shows}
 use Rattle.dirfrag_codec.proofs.TreeLaws.{one_tree}
 use Rattle.dirfrag_codec.proofs.RecordLaws.{allowed as record_allowed}
@@ -29,11 +29,11 @@ use Rattle.cold_store.specs.Rows.{IsGoodTree, leaves_said}
 -- ---- names
 
 -- a record allows each inode that an object shows
-pub recordable : (pairs : PairMap) (name : List ℕ) (inode : Inode) → map.get (names_of pairs) name ≡ Some inode → IsRecordable inode
+pub recordable : (pairs : PairMap) (name : List ℕ) (inode : Inode) → map.get (names_of_pairs pairs) name ≡ Some inode → IsRecordable inode
 recordable pairs name inode is = go (is_name name) (map.get pairs (entry_key name)) (sym (shows_at_each pairs name) ∙ is)
   where
-    go : (b : Bool) (r : Option (List ℕ)) → cond b (r >>= entry_of) None ≡ Some inode → IsRecordable inode
-    go true (Some bytes) e = record_allowed bytes inode (spelled_as SpellsEntry entry_of reads_entry bytes inode e)
+    go : (b : Bool) (r : Option (List ℕ)) → cond b (r >>= inode_of_record) None ≡ Some inode → IsRecordable inode
+    go true (Some bytes) e = record_allowed bytes inode (spelled_as SpellsEntry inode_of_record reads_entry bytes inode e)
     go true None e = absurd cc
     go false r e = absurd cc
 

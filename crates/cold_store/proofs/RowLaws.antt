@@ -20,10 +20,10 @@ use Rattle.inode_table.specs.Dirs.{Homes, MayCome, is_known}
 use Rattle.inode_table.specs.TreeTable.{home_at, with_home}
 use Rattle.inode_table.proofs.TableLaws.{dir_or_not, with_dir, with_file}
 use Rattle.cold_store.specs.ColdTree.{Record}
-use Rattle.cold_store.specs.Rows.{IsIn, IsReady, Shape, are_new, is_met, start, with_entry, with_row, with_rows}
+use Rattle.cold_store.specs.Rows.{IsIn, IsMetDir, Walked, are_new, is_met, root_alone, walked_with, with_row, with_rows}
 use Rattle.cold_store.proofs.Members.{AreApart, some_stays, value_of}
 
-pub with_rows-append : (s : Shape) (a b : List Record) → with_rows s (a ++ b) ≡ with_rows (with_rows s a) b
+pub with_rows-append : (s : Walked) (a b : List Record) → with_rows s (a ++ b) ≡ with_rows (with_rows s a) b
 with_rows-append s [] b = refl
 with_rows-append s (r ∷ a) b = with_rows-append (with_row s r) a b
 
@@ -40,7 +40,7 @@ abbrev pub dirs_of : List Record → List Ino
 dirs_of [] = []
 dirs_of (r ∷ rs) = cond (is_dir r) (r.inode.ino ∷ dirs_of rs) (dirs_of rs)
 
-pub queue_after : (s : Shape) (rs : List Record) → (with_rows s rs).queue ≡ s.queue ++ dirs_of rs
+pub queue_after : (s : Walked) (rs : List Record) → (with_rows s rs).queue ≡ s.queue ++ dirs_of rs
 queue_after s [] = sym (append-nil s.queue)
 queue_after s (r ∷ rs) = queue_after (with_row s r) rs ∙ go (is_dir r)
   where
@@ -79,13 +79,13 @@ dir_among d (q ∷ rs) h = go (is_dir q) refl h (dir_among d rs)
 
 -- ---- numbers
 
-pub met_head : (s : Shape) (r : Record) → is_met (with_row s r) r.inode.ino.0 ≡ true
+pub met_head : (s : Walked) (r : Record) → is_met (with_row s r) r.inode.ino.0 ≡ true
 met_head s r = ap is_some (get_put s.met r.inode.ino.0 tt)
 
-pub met_stays : (s : Shape) (r : Record) (n : ℕ) → is_met s n ≡ true → is_met (with_row s r) n ≡ true
+pub met_stays : (s : Walked) (r : Record) (n : ℕ) → is_met s n ≡ true → is_met (with_row s r) n ≡ true
 met_stays s r n met = some_stays nat_cmp_total s.met r.inode.ino.0 tt n met
 
-met_from : (s : Shape) (r : Record) (n : ℕ) → is_met (with_row s r) n ≡ true → (is_met s n ≡ true) ⊎ (r.inode.ino.0 ≡ n)
+met_from : (s : Walked) (r : Record) (n : ℕ) → is_met (with_row s r) n ≡ true → (is_met s n ≡ true) ⊎ (r.inode.ino.0 ≡ n)
 met_from s r n met = go (same_or_apart n r.inode.ino.0)
   where
     go : (n ≡ r.inode.ino.0) ⊎ (n ≡ r.inode.ino.0 → ⊥) → (is_met s n ≡ true) ⊎ (r.inode.ino.0 ≡ n)
@@ -99,7 +99,7 @@ pub record IsRowOf (rs : List Record) (n : ℕ) : Type 0 where
   pub is : row.inode.ino.0 ≡ n
 
 -- a number that is met after records was met before, or is one of theirs
-pub met_among : (s : Shape) (rs : List Record) (n : ℕ) → is_met (with_rows s rs) n ≡ true → (is_met s n ≡ true) ⊎ IsRowOf rs n
+pub met_among : (s : Walked) (rs : List Record) (n : ℕ) → is_met (with_rows s rs) n ≡ true → (is_met s n ≡ true) ⊎ IsRowOf rs n
 met_among s [] n met = inl met
 met_among s (q ∷ rs) n met = go (met_among (with_row s q) rs n met)
   where
@@ -112,7 +112,7 @@ met_among s (q ∷ rs) n met = go (met_among (with_row s q) rs n met)
     go (inr w) = inr (record { row = w.row; among = inr w.among; is = w.is })
 
 -- at the start the root's number is met alone
-pub met_at_start : (n : ℕ) → is_met start n ≡ true → n ≡ 1
+pub met_at_start : (n : ℕ) → is_met root_alone n ≡ true → n ≡ 1
 met_at_start n met = go (same_or_apart n 1)
   where
     nothing : map.FinMap nat_cmp (Unit {0})
@@ -126,17 +126,17 @@ clash : (b c : Bool) → b ≡ true → (not b && c) ≡ true → ⊥
 clash true c is new = absurd cc
 clash false c is new = absurd cc
 
-rest_new : (s : Shape) (q : Record) (rs : List Record) → are_new s (q ∷ rs) ≡ true → are_new (with_row s q) rs ≡ true
+rest_new : (s : Walked) (q : Record) (rs : List Record) → are_new s (q ∷ rs) ≡ true → are_new (with_row s q) rs ≡ true
 rest_new s q rs new = (and_parts (not (is_met s q.inode.ino.0)) (are_new (with_row s q) rs) new).1
 
 -- no number of new records was met before
-pub new_apart : (s : Shape) (rs : List Record) (r : Record) → are_new s rs ≡ true → IsIn r rs → is_met s r.inode.ino.0 ≡ true → ⊥
+pub new_apart : (s : Walked) (rs : List Record) (r : Record) → are_new s rs ≡ true → IsIn r rs → is_met s r.inode.ino.0 ≡ true → ⊥
 new_apart s [] r new h met = h
 new_apart s (q ∷ rs) r new (inl same) met = clash (is_met s q.inode.ino.0) (are_new (with_row s q) rs) (ap (λ (x : Record). is_met s x.inode.ino.0) same ∙ met) new
 new_apart s (q ∷ rs) r new (inr rest) met = new_apart (with_row s q) rs r (rest_new s q rs new) rest (met_stays s q r.inode.ino.0 met)
 
 -- two new records with one number are one
-pub one_row : (s : Shape) (rs : List Record) (r q : Record) → are_new s rs ≡ true → IsIn r rs → IsIn q rs → r.inode.ino.0 ≡ q.inode.ino.0 → r ≡ q
+pub one_row : (s : Walked) (rs : List Record) (r q : Record) → are_new s rs ≡ true → IsIn r rs → IsIn q rs → r.inode.ino.0 ≡ q.inode.ino.0 → r ≡ q
 one_row s [] r q new h k same = absurd h
 one_row s (x ∷ rs) r q new (inl a) (inl b) same = sym a ∙ b
 one_row s (x ∷ rs) r q new (inl a) (inr b) same = absurd (new_apart (with_row s x) rs q (rest_new s x rs new) b (subst (λ n. is_met (with_row s x) n ≡ true) (ap (λ (y : Record). y.inode.ino.0) a ∙ same) (met_head s x)))
@@ -144,14 +144,14 @@ one_row s (x ∷ rs) r q new (inr a) (inl b) same = absurd (new_apart (with_row 
 one_row s (x ∷ rs) r q new (inr a) (inr b) same = one_row (with_row s x) rs r q (rest_new s x rs new) a b same
 
 -- records that aren't all new have a first one that isn't
-pub record IsOld (s : Shape) (rs : List Record) : Type 0 where
+pub record IsOld (s : Walked) (rs : List Record) : Type 0 where
   pub before : List Record
   pub old : Record
   pub behind : List Record
   pub split : rs ≡ before ++ old ∷ behind
   pub met : is_met (with_rows s before) old.inode.ino.0 ≡ true
 
-pub first_old : (s : Shape) (rs : List Record) → are_new s rs ≡ false → IsOld s rs
+pub first_old : (s : Walked) (rs : List Record) → are_new s rs ≡ false → IsOld s rs
 first_old s [] none = absurd cc
 first_old s (r ∷ rs) some = go (is_met s r.inode.ino.0) refl some (first_old (with_row s r) rs)
   where
@@ -159,14 +159,14 @@ first_old s (r ∷ rs) some = go (is_met s r.inode.ino.0) refl some (first_old (
     go true met some more = record { before = []; old = r; behind = rs; split = refl; met = met }
     go false met some more = let w = more some in record { before = r ∷ w.before; old = w.old; behind = w.behind; split = ap (λ l. r ∷ l) w.split; met = w.met }
 
-pub are_new-append : (s : Shape) (a b : List Record) → are_new s a ≡ true → are_new (with_rows s a) b ≡ true → are_new s (a ++ b) ≡ true
+pub are_new-append : (s : Walked) (a b : List Record) → are_new s a ≡ true → are_new (with_rows s a) b ≡ true → are_new s (a ++ b) ≡ true
 are_new-append s [] b p q = q
 are_new-append s (r ∷ a) b p q =
     let parts = and_parts (not (is_met s r.inode.ino.0)) (are_new (with_row s r) a) p in
     and_from (not (is_met s r.inode.ino.0)) (are_new (with_row s r) (a ++ b)) parts.0 (are_new-append (with_row s r) a b parts.1 q)
 
 -- directories of new records are apart
-pub dirs_apart : (s : Shape) (rs : List Record) → are_new s rs ≡ true → AreApart (dirs_of rs)
+pub dirs_apart : (s : Walked) (rs : List Record) → are_new s rs ≡ true → AreApart (dirs_of rs)
 dirs_apart s [] new = tt
 dirs_apart s (r ∷ rs) new = go (is_dir r) (dirs_apart (with_row s r) rs (rest_new s r rs new))
   where
@@ -181,12 +181,12 @@ dirs_apart s (r ∷ rs) new = go (is_dir r) (dirs_apart (with_row s r) rs (rest_
 
 -- ---- the entries
 
-rows_stay : (s : Shape) (rs : List Record) (q : Dentry) → is_some (map.get s.tree q) ≡ true → is_some (map.get (with_rows s rs).tree q) ≡ true
+rows_stay : (s : Walked) (rs : List Record) (q : Dentry) → is_some (map.get s.tree q) ≡ true → is_some (map.get (with_rows s rs).tree q) ≡ true
 rows_stay s [] q some = some
 rows_stay s (r ∷ rs) q some = rows_stay (with_row s r) rs q (some_stays dentry-total s.tree (dentry_at r) r.inode q some)
 
 -- where a record is something stands
-pub rows_stand : (s : Shape) (rs : List Record) (r : Record) → IsIn r rs → is_some (map.get (with_rows s rs).tree (dentry_at r)) ≡ true
+pub rows_stand : (s : Walked) (rs : List Record) (r : Record) → IsIn r rs → is_some (map.get (with_rows s rs).tree (dentry_at r)) ≡ true
 rows_stand s [] r h = absurd h
 rows_stand s (x ∷ rs) r (inl same) =
     rows_stay (with_row s x) rs (dentry_at r) (subst (λ (y : Record). is_some (map.get (with_row s x).tree (dentry_at y)) ≡ true) same (ap is_some (get_put_entry s.tree (dentry_at x) x.inode)))
@@ -199,7 +199,7 @@ pub record IsEntryOf (rs : List Record) (q : Dentry) (i : Inode) : Type 0 where
   pub at : dentry_at row ≡ q
   pub is : row.inode ≡ i
 
-pub entry_among : (s : Shape) (rs : List Record) (q : Dentry) (i : Inode) → map.get (with_rows s rs).tree q ≡ Some i → (map.get s.tree q ≡ Some i) ⊎ IsEntryOf rs q i
+pub entry_among : (s : Walked) (rs : List Record) (q : Dentry) (i : Inode) → map.get (with_rows s rs).tree q ≡ Some i → (map.get s.tree q ≡ Some i) ⊎ IsEntryOf rs q i
 entry_among s [] q i stands = inl stands
 entry_among s (r ∷ rs) q i stands = go (entry_among (with_row s r) rs q i stands)
   where
@@ -214,22 +214,22 @@ entry_among s (r ∷ rs) q i stands = go (entry_among (with_row s r) rs q i stan
 -- ---- the homes
 
 -- the table after a record: with the home of a directory, or as it was
-homes_by : (P : Homes → Type 0) (s : Shape) (r : Record) → (is_dir r ≡ true → P (map.insert s.homes r.inode.ino.0 (home_at (dentry_at r)))) → (is_dir r ≡ false → P s.homes) → P (with_row s r).homes
+homes_by : (P : Homes → Type 0) (s : Walked) (r : Record) → (is_dir r ≡ true → P (map.insert s.homes r.inode.ino.0 (home_at (dentry_at r)))) → (is_dir r ≡ false → P s.homes) → P (with_row s r).homes
 homes_by P s r of_dir of_file = go (dir_or_not r.inode)
   where
     go : (is_dir r ≡ true) ⊎ (is_dir r ≡ false) → P (with_home s.homes (dentry_at r) r.inode)
     go (inl dir) = subst P (sym (with_dir s.homes (dentry_at r) r.inode dir)) (of_dir dir)
     go (inr file) = subst P (sym (with_file s.homes (dentry_at r) r.inode file)) (of_file file)
 
-home_stays : (s : Shape) (r : Record) (k : ℕ) → is_some (map.get s.homes k) ≡ true → is_some (map.get (with_row s r).homes k) ≡ true
+home_stays : (s : Walked) (r : Record) (k : ℕ) → is_some (map.get s.homes k) ≡ true → is_some (map.get (with_row s r).homes k) ≡ true
 home_stays s r k some = homes_by (λ h. is_some (map.get h k) ≡ true) s r (λ dir. some_stays nat_cmp_total s.homes r.inode.ino.0 (home_at (dentry_at r)) k some) (λ file. some)
 
-pub homes_stay : (s : Shape) (rs : List Record) (k : ℕ) → is_some (map.get s.homes k) ≡ true → is_some (map.get (with_rows s rs).homes k) ≡ true
+pub homes_stay : (s : Walked) (rs : List Record) (k : ℕ) → is_some (map.get s.homes k) ≡ true → is_some (map.get (with_rows s rs).homes k) ≡ true
 homes_stay s [] k some = some
 homes_stay s (r ∷ rs) k some = homes_stay (with_row s r) rs k (home_stays s r k some)
 
 -- each directory among records has a home
-pub homes_stand : (s : Shape) (rs : List Record) (r : Record) → IsIn r rs → is_dir r ≡ true → is_some (map.get (with_rows s rs).homes r.inode.ino.0) ≡ true
+pub homes_stand : (s : Walked) (rs : List Record) (r : Record) → IsIn r rs → is_dir r ≡ true → is_some (map.get (with_rows s rs).homes r.inode.ino.0) ≡ true
 homes_stand s [] r h dir = absurd h
 homes_stand s (x ∷ rs) r (inl same) dir =
     homes_stay (with_row s x) rs r.inode.ino.0 (subst (λ (y : Record). is_some (map.get (with_row s x).homes y.inode.ino.0) ≡ true) same here)
@@ -248,7 +248,7 @@ pub record IsHomeOf (rs : List Record) (k : ℕ) (home : Home) : Type 0 where
   pub number : row.inode.ino.0 ≡ k
   pub is : home_at (dentry_at row) ≡ home
 
-home_from : (s : Shape) (r : Record) (k : ℕ) (home : Home) → map.get (with_row s r).homes k ≡ Some home → (map.get s.homes k ≡ Some home) ⊎ IsHomeOf (r ∷ []) k home
+home_from : (s : Walked) (r : Record) (k : ℕ) (home : Home) → map.get (with_row s r).homes k ≡ Some home → (map.get s.homes k ≡ Some home) ⊎ IsHomeOf (r ∷ []) k home
 home_from s r k home = homes_by (λ h. map.get h k ≡ Some home → (map.get s.homes k ≡ Some home) ⊎ IsHomeOf (r ∷ []) k home) s r of_dir (λ file is. inl is)
   where
     of_dir : is_dir r ≡ true → map.get (map.insert s.homes r.inode.ino.0 (home_at (dentry_at r))) k ≡ Some home → (map.get s.homes k ≡ Some home) ⊎ IsHomeOf (r ∷ []) k home
@@ -258,7 +258,7 @@ home_from s r k home = homes_by (λ h. map.get h k ≡ Some home → (map.get s.
         go (inl here) = inr (record { row = r; among = inl refl; dir = dir; number = sym here.0; is = here.1 })
         go (inr before) = inl before.1
 
-pub home_among : (s : Shape) (rs : List Record) (k : ℕ) (home : Home) → map.get (with_rows s rs).homes k ≡ Some home → (map.get s.homes k ≡ Some home) ⊎ IsHomeOf rs k home
+pub home_among : (s : Walked) (rs : List Record) (k : ℕ) (home : Home) → map.get (with_rows s rs).homes k ≡ Some home → (map.get s.homes k ≡ Some home) ⊎ IsHomeOf rs k home
 home_among s [] k home is = inl is
 home_among s (r ∷ rs) k home is = go (home_among (with_row s r) rs k home is)
   where
@@ -279,14 +279,14 @@ home_among s (r ∷ rs) k home is = go (home_among (with_row s r) rs k home is)
 
 -- ---- what is ready stays so
 
-pub known_stays : (s : Shape) (r : Record) (k : ℕ) → is_known s.homes k ≡ true → is_known (with_row s r).homes k ≡ true
+pub known_stays : (s : Walked) (r : Record) (k : ℕ) → is_known s.homes k ≡ true → is_known (with_row s r).homes k ≡ true
 known_stays s r k known = go (or_cases (k == 1) (is_some (map.get s.homes k)) known)
   where
     go : ((k == 1) ≡ true) ⊎ (is_some (map.get s.homes k) ≡ true) → is_known (with_row s r).homes k ≡ true
     go (inl root) = or_left (k == 1) _ root
     go (inr some) = or_right (k == 1) _ (home_stays s r k some)
 
-known_from : (s : Shape) (r : Record) (k : ℕ) → is_known (with_row s r).homes k ≡ true → (is_known s.homes k ≡ true) ⊎ (r.inode.ino.0 ≡ k)
+known_from : (s : Walked) (r : Record) (k : ℕ) → is_known (with_row s r).homes k ≡ true → (is_known s.homes k ≡ true) ⊎ (r.inode.ino.0 ≡ k)
 known_from s r k known = go (or_cases (k == 1) (is_some (map.get (with_row s r).homes k)) known)
   where
     one : (q : Record) → IsIn q (r ∷ []) → q.inode.ino.0 ≡ k → r.inode.ino.0 ≡ k
@@ -302,37 +302,37 @@ known_from s r k known = go (or_cases (k == 1) (is_some (map.get (with_row s r).
     go (inr some) = let h = value_of (map.get (with_row s r).homes k) some in pick h.0 (home_from s r k h.0 h.1)
 
 -- what was found was met, once there is a record more
-met_more : (s : Shape) (r : Record) → ((k : ℕ) → is_known s.homes k ≡ true → is_met s k ≡ true) → (k : ℕ) → is_known (with_row s r).homes k ≡ true → is_met (with_row s r) k ≡ true
+met_more : (s : Walked) (r : Record) → ((k : ℕ) → is_known s.homes k ≡ true → is_met s k ≡ true) → (k : ℕ) → is_known (with_row s r).homes k ≡ true → is_met (with_row s r) k ≡ true
 met_more s r met k known = go (known_from s r k known)
   where
     go : (is_known s.homes k ≡ true) ⊎ (r.inode.ino.0 ≡ k) → is_met (with_row s r) k ≡ true
     go (inl before) = met_stays s r k (met k before)
     go (inr here) = subst (λ j. is_met (with_row s r) j ≡ true) here (met_head s r)
 
-ready_more : (s : Shape) (r : Record) (d : ℕ) → IsReady s d → IsReady (with_row s r) d
+ready_more : (s : Walked) (r : Record) (d : ℕ) → IsMetDir s d → IsMetDir (with_row s r) d
 ready_more s r d ready = record { each_met = met_more s r ready.each_met; known = known_stays s r d ready.known }
 
 -- what is ready is so still once an entry is there
-pub ready_with : (old new : Shape) (d : Ino) (name : List ℕ) (inode : Inode) → new ≡ with_entry old (record { dir = d; name = name }) inode → IsReady old d.0 → IsReady new d.0
-ready_with old new d name inode is ready = subst (λ s. IsReady s d.0) (sym is) (ready_more old (record { leaf = (d, root_fragment); name = name; inode = inode }) d.0 ready)
+pub ready_with : (old new : Walked) (d : Ino) (name : List ℕ) (inode : Inode) → new ≡ walked_with old (record { dir = d; name = name }) inode → IsMetDir old d.0 → IsMetDir new d.0
+ready_with old new d name inode is ready = subst (λ s. IsMetDir s d.0) (sym is) (ready_more old (record { leaf = (d, root_fragment); name = name; inode = inode }) d.0 ready)
 
-pub each_met_after : (s : Shape) (rs : List Record) → ((k : ℕ) → is_known s.homes k ≡ true → is_met s k ≡ true) → (k : ℕ) → is_known (with_rows s rs).homes k ≡ true → is_met (with_rows s rs) k ≡ true
+pub each_met_after : (s : Walked) (rs : List Record) → ((k : ℕ) → is_known s.homes k ≡ true → is_met s k ≡ true) → (k : ℕ) → is_known (with_rows s rs).homes k ≡ true → is_met (with_rows s rs) k ≡ true
 each_met_after s [] met k known = met k known
 each_met_after s (r ∷ rs) met k known = each_met_after (with_row s r) rs (met_more s r met) k known
 
 -- at the start the root alone is there
-pub each_met_at_start : (k : ℕ) → is_known start.homes k ≡ true → is_met start k ≡ true
-each_met_at_start k known = go (or_cases (k == 1) (is_some (map.get start.homes k)) known)
+pub each_met_at_start : (k : ℕ) → is_known root_alone.homes k ≡ true → is_met root_alone k ≡ true
+each_met_at_start k known = go (or_cases (k == 1) (is_some (map.get root_alone.homes k)) known)
   where
     nothing : map.FinMap nat_cmp (Unit {0})
     nothing = map.empty
 
-    go : ((k == 1) ≡ true) ⊎ (is_some (map.get start.homes k) ≡ true) → is_met start k ≡ true
-    go (inl root) = ap (λ j. is_met start j) (eqb-true k 1 root) ∙ ap is_some (get_put nothing 1 tt)
+    go : ((k == 1) ≡ true) ⊎ (is_some (map.get root_alone.homes k) ≡ true) → is_met root_alone k ≡ true
+    go (inl root) = ap (λ j. is_met root_alone j) (eqb-true k 1 root) ∙ ap is_some (get_put nothing 1 tt)
     go (inr some) = let both : false ≡ true = sym (ap is_some (get-empty nat_cmp k)) ∙ some in absurd cc
 
 -- an inode whose number wasn't met may come, if it is a directory's
-pub may_come : (s : Shape) (d : Ino) (name : List ℕ) (inode : Inode) → IsReady s d.0 → is_met s inode.ino.0 ≡ false → MayCome s.homes inode.ino.0 (home_at (record { dir = d; name = name }))
+pub may_come : (s : Walked) (d : Ino) (name : List ℕ) (inode : Inode) → IsMetDir s d.0 → is_met s inode.ino.0 ≡ false → MayCome s.homes inode.ino.0 (home_at (record { dir = d; name = name }))
 may_come s d name inode ready new = record {
   other = λ root. not_known (or_left (inode.ino.0 == 1) _ (is_same inode.ino.0 1 root));
   fresh = none (map.get s.homes inode.ino.0) refl;

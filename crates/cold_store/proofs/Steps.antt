@@ -1,5 +1,5 @@
 -- The steps of the walk.
-use Rattle.cold_store.proofs.Common.{AreGoodDirs, AreGoodLeaves, Covers, Finding, Fragment, Ino, Inode, IsBadAmong, IsBadIn, IsFaulty, IsGoodDir, IsGoodLeaf, IsIn, IsReached, IsReady, IsRecord, IsWalkedTo, Leaf, List, ObjName, Objects, Record, Shape, Some, [], ap, are_new, arith, cover_in, covers_from, drop, drop_more, get_or, get_or_default, inl, inr, is_known, is_met, length, length-append, not, or_right, refl, rows_at, rows_from, rows_in, rows_of, rows_under, start, subst, sym, take, take-append-drop, take-append-le, take_more, true, with_cover, with_entry, with_rows, ℕ, ◌&&◌, ◌++◌, ◌+◌, ◌<◌, ◌==◌, ◌∙◌, ◌∷◌, ◌≡◌, ◌≤◌, ◌⊎◌}
+use Rattle.cold_store.proofs.Common.{AreGoodDirs, AreGoodLeaves, Covers, Finding, Fragment, Ino, Inode, IsBadAmong, IsBadIn, IsFaulty, IsGoodDir, IsGoodLeaf, IsIn, IsReached, IsMetDir, IsRecord, IsWalkedTo, Leaf, List, ObjName, Objects, Record, Walked, Some, [], ap, are_new, arith, cover_in, covers_from, drop, drop_more, get_or, get_or_default, inl, inr, is_known, is_met, length, length-append, not, or_right, refl, records_at, records_from, rows_in, rows_of, rows_under, root_alone, subst, sym, take, take-append-drop, take-append-le, take_more, true, with_cover, walked_with, with_rows, ℕ, ◌&&◌, ◌++◌, ◌+◌, ◌<◌, ◌==◌, ◌∙◌, ◌∷◌, ◌≡◌, ◌≤◌, ◌⊎◌}
 use Rattle.std.specs.FinMap as map
 use Rattle.cold_store.proofs.Members.{AreApart, apart_split, in_either, in_left, in_right}
 use Rattle.cold_store.proofs.RowLaws.{dir_among, dirs_apart, dirs_of, each_met_after, each_met_at_start, homes_stand, queue_after, with_rows-append}
@@ -8,19 +8,19 @@ use Rattle.cold_store.proofs.GoodLaws.{all_new, covers_from-snoc, good-snoc}
 use Rattle.cold_store.proofs.FaultLaws.{dir_faulty}
 
 -- one name more
-module _ (leaf : Leaf) (es next : List (List ℕ × Inode)) (name : List ℕ) (inode : Inode) (s t : Shape) (parted : es ≡ (name, inode) ∷ next)
-    (added : t ≡ with_entry s (record { dir = leaf.0; name = name }) inode) where
+module _ (leaf : Leaf) (es next : List (List ℕ × Inode)) (name : List ℕ) (inode : Inode) (s t : Walked) (parted : es ≡ (name, inode) ∷ next)
+    (added : t ≡ walked_with s (record { dir = leaf.0; name = name }) inode) where
   pub new_step : not (is_met s inode.ino.0) ≡ true → are_new t (rows_of leaf next) ≡ are_new s (rows_of leaf es)
   new_step new =
       ap (λ u. are_new u (rows_of leaf next)) added
-      ∙ sym (ap (λ b. b && are_new (with_entry s (record { dir = leaf.0; name = name }) inode) (rows_of leaf next)) new)
+      ∙ sym (ap (λ b. b && are_new (walked_with s (record { dir = leaf.0; name = name }) inode) (rows_of leaf next)) new)
       ∙ sym (ap (λ xs. are_new s (rows_of leaf xs)) parted)
 
   pub row_step : with_rows t (rows_of leaf next) ≡ with_rows s (rows_of leaf es)
   row_step = ap (λ u. with_rows u (rows_of leaf next)) added ∙ sym (ap (λ xs. with_rows s (rows_of leaf xs)) parted)
 
 -- one leaf more
-module _ (objects : Objects) (d : Ino) (i : ℕ) (fs : List Fragment) (f : Fragment) (less : i < length fs) (at : f ≡ get_or fs i f) (s t : Shape) (added : t ≡ with_rows s (rows_at objects (d, f))) where
+module _ (objects : Objects) (d : Ino) (i : ℕ) (fs : List Fragment) (f : Fragment) (less : i < length fs) (at : f ≡ get_or fs i f) (s t : Walked) (added : t ≡ with_rows s (records_at objects (d, f))) where
   behind : drop i fs ≡ f ∷ drop (i + 1) fs
   behind = drop_more fs i f less ∙ ap (λ g. g ∷ drop (i + 1) fs) (sym at)
 
@@ -33,7 +33,7 @@ module _ (objects : Objects) (d : Ino) (i : ℕ) (fs : List Fragment) (f : Fragm
   pub whole_step : with_rows t (rows_under objects d (drop (i + 1) fs)) ≡ with_rows s (rows_under objects d (drop i fs))
   whole_step =
       ap (λ u. with_rows u (rows_under objects d (drop (i + 1) fs))) added
-      ∙ sym (with_rows-append s (rows_at objects (d, f)) (rows_under objects d (drop (i + 1) fs)))
+      ∙ sym (with_rows-append s (records_at objects (d, f)) (rows_under objects d (drop (i + 1) fs)))
       ∙ sym (ap (λ gs. with_rows s (rows_under objects d gs)) behind)
 
 -- the directory at an index, read from a list that is the queue
@@ -41,7 +41,7 @@ pub next_dir : (read queue : List Ino) (next : ℕ) (none : Ino) → read ≡ qu
 next_dir read queue next none same less = ap (λ q. get_or q next none) same ∙ get_or_default queue next none (get_or read next none) less
 
 module _ (objects : Objects) where
-  pub walked_first : (found : Finding) → found ≡ record { shape = start; covers = map.empty } → IsWalkedTo objects found 0
+  pub walked_first : (found : Finding) → found ≡ record { shape = root_alone; covers = map.empty } → IsWalkedTo objects found 0
   walked_first found is = subst (λ x. IsWalkedTo objects x 0) (sym is) (record { within = omega arith; walked = refl; covered = refl; good = tt; reached = first })
     where
       first : (d : Ino) → IsIn d (record { 0 = 1 } ∷ []) → IsReached objects d.0
@@ -49,12 +49,12 @@ module _ (objects : Objects) where
       first d (inr none) = absurd none
 
   -- directories that were found are apart
-  queue_apart : (ds : List Ino) → AreGoodDirs objects start ds → AreApart (record { 0 = 1 } ∷ dirs_of (rows_from objects ds))
-  queue_apart ds good = (root, dirs_apart start (rows_from objects ds) (all_new objects start ds good))
+  queue_apart : (ds : List Ino) → AreGoodDirs objects root_alone ds → AreApart (record { 0 = 1 } ∷ dirs_of (records_from objects ds))
+  queue_apart ds good = (root, dirs_apart root_alone (records_from objects ds) (all_new objects root_alone ds good))
     where
-      root : IsIn (record { 0 = 1 }) (dirs_of (rows_from objects ds)) → ⊥
+      root : IsIn (record { 0 = 1 }) (dirs_of (records_from objects ds)) → ⊥
       root h =
-          let r = dir_among (record { 0 = 1 }) (rows_from objects ds) h in
+          let r = dir_among (record { 0 = 1 }) (records_from objects ds) h in
           let a = (allowed objects r.row (in_dirs objects ds r.row r.among).1).number.least in
           let one : r.row.inode.ino.0 ≡ 1 = ap (λ (k : Ino). k.0) r.is in
           absurd (omega (arith, a, one))
@@ -64,20 +64,20 @@ module _ (objects : Objects) where
     done = take next found.shape.queue
 
     abbrev rows : List Record
-    rows = rows_from objects done
+    rows = records_from objects done
 
     queue_is : found.shape.queue ≡ record { 0 = 1 } ∷ dirs_of rows
-    queue_is = ap (λ (t : Shape). t.queue) w.walked ∙ queue_after start rows
+    queue_is = ap (λ (t : Walked). t.queue) w.walked ∙ queue_after root_alone rows
 
     -- what was found is known
     queue_known : (d : Ino) → IsIn d found.shape.queue → is_known found.shape.homes d.0 ≡ true
-    queue_known d h = subst (λ (t : Shape). is_known t.homes d.0 ≡ true) (sym w.walked) (go (subst (IsIn d) queue_is h))
+    queue_known d h = subst (λ (t : Walked). is_known t.homes d.0 ≡ true) (sym w.walked) (go (subst (IsIn d) queue_is h))
       where
-        go : (record { 0 = 1 } ≡ d) ⊎ IsIn d (dirs_of rows) → is_known (with_rows start rows).homes d.0 ≡ true
-        go (inl root) = subst (λ (k : Ino). is_known (with_rows start rows).homes k.0 ≡ true) root refl
+        go : (record { 0 = 1 } ≡ d) ⊎ IsIn d (dirs_of rows) → is_known (with_rows root_alone rows).homes d.0 ≡ true
+        go (inl root) = subst (λ (k : Ino). is_known (with_rows root_alone rows).homes k.0 ≡ true) root refl
         go (inr more) =
             let r = dir_among d rows more in
-            subst (λ (k : Ino). is_known (with_rows start rows).homes k.0 ≡ true) r.is (or_right (r.row.inode.ino.0 == 1) _ (homes_stand start rows r.row r.among r.dir))
+            subst (λ (k : Ino). is_known (with_rows root_alone rows).homes k.0 ≡ true) r.is (or_right (r.row.inode.ino.0 == 1) _ (homes_stand root_alone rows r.row r.among r.dir))
 
     module _ (d : Ino) (less : next < length found.shape.queue) (at : d ≡ get_or found.shape.queue next d) where
       from_here : drop next found.shape.queue ≡ d ∷ drop (next + 1) found.shape.queue
@@ -92,15 +92,15 @@ module _ (objects : Objects) where
       here : IsReached objects d.0
       here = w.reached d queued_here
 
-      pub ready_here : IsReady found.shape d.0
-      ready_here = record { each_met = subst (λ (t : Shape). (k : ℕ) → is_known t.homes k ≡ true → is_met t k ≡ true) (sym w.walked) (each_met_after start rows each_met_at_start); known = queue_known d queued_here }
+      pub ready_here : IsMetDir found.shape d.0
+      ready_here = record { each_met = subst (λ (t : Walked). (k : ℕ) → is_known t.homes k ≡ true → is_met t k ≡ true) (sym w.walked) (each_met_after root_alone rows each_met_at_start); known = queue_known d queued_here }
 
       -- it was not walked before
       not_before : IsIn d done → ⊥
       not_before h = apart_split done d (drop (next + 1) found.shape.queue) (subst AreApart (sym (split ∙ queue_is)) (queue_apart done w.good)) h
 
       pub faulty : (name : ObjName) → IsBadIn objects found.shape d name → IsFaulty objects name
-      faulty name bad = dir_faulty objects d here rows name before (subst (λ (t : Shape). IsBadIn objects t d name) w.walked bad)
+      faulty name bad = dir_faulty objects d here rows name before (subst (λ (t : Walked). IsBadIn objects t d name) w.walked bad)
         where
           before : (q : Record) → IsIn q rows → IsReached objects q.leaf.0.0 × IsRecord objects q × (q.leaf.0 ≡ d → ⊥)
           before q h =
@@ -109,7 +109,7 @@ module _ (objects : Objects) where
 
       module _ (then : Finding) (good : IsGoodDir objects found.shape d) (added : then.shape ≡ with_rows found.shape (rows_in objects d)) (covers : then.covers ≡ with_cover found.covers d (cover_in objects d)) where
         queue_then : then.shape.queue ≡ found.shape.queue ++ dirs_of (rows_in objects d)
-        queue_then = ap (λ (t : Shape). t.queue) added ∙ queue_after found.shape (rows_in objects d)
+        queue_then = ap (λ (t : Walked). t.queue) added ∙ queue_after found.shape (rows_in objects d)
 
         pub taken : take (next + 1) then.shape.queue ≡ done ++ d ∷ []
         taken =
@@ -123,16 +123,16 @@ module _ (objects : Objects) where
               within = omega (arith, long, less);
               walked =
                   added
-                  ∙ ap (λ (t : Shape). with_rows t (rows_in objects d)) w.walked
-                  ∙ sym (with_rows-append start rows (rows_in objects d))
-                  ∙ ap (with_rows start) (sym (rows_from-snoc objects done d))
-                  ∙ ap (λ ds. with_rows start (rows_from objects ds)) (sym taken);
+                  ∙ ap (λ (t : Walked). with_rows t (rows_in objects d)) w.walked
+                  ∙ sym (with_rows-append root_alone rows (rows_in objects d))
+                  ∙ ap (with_rows root_alone) (sym (rows_from-snoc objects done d))
+                  ∙ ap (λ ds. with_rows root_alone (records_from objects ds)) (sym taken);
               covered =
                   covers
                   ∙ ap (λ (c : Covers). with_cover c d (cover_in objects d)) w.covered
                   ∙ sym (covers_from-snoc objects map.empty done d)
                   ∙ ap (λ ds. covers_from objects map.empty ds) (sym taken);
-              good = subst (λ ds. AreGoodDirs objects start ds) (sym taken) (good-snoc objects start done d w.good (subst (λ (t : Shape). IsGoodDir objects t d) w.walked good));
+              good = subst (λ ds. AreGoodDirs objects root_alone ds) (sym taken) (good-snoc objects root_alone done d w.good (subst (λ (t : Walked). IsGoodDir objects t d) w.walked good));
               reached = λ k h. go k (in_either k found.shape.queue (dirs_of (rows_in objects d)) (subst (IsIn k) queue_then h));
             }
           where

@@ -22,20 +22,20 @@ use Rattle.dirfrag_codec.specs.EntryRecord.{IsRecordable}
 use Rattle.dentry_cache.specs.Loading.{object_of}
 use Rattle.dentry_cache.specs.Ties.{names_at}
 use Rattle.mds_types.specs.Frag.{span}
-use Rattle.cold_store.specs.ColdTree.{IsColdLeaf, IsRecord, Record, SaysLeaves, tree_of}
-use Rattle.cold_store.specs.Rows.{IsIn, leaves_at, leaves_said, names_in, row_of, rows_at, rows_from, rows_in, rows_of, rows_under}
+use Rattle.cold_store.specs.ColdTree.{IsColdLeaf, IsRecord, Record, SaysLeaves, tree_object_of}
+use Rattle.cold_store.specs.Rows.{IsIn, stored_leaves, leaves_said, stored_names, name_record, records_at, records_from, rows_in, rows_of, rows_under}
 use Rattle.cold_store.proofs.Members.{below_apart, entry_of, get_entry, in_either, in_left, in_right}
 use Rattle.cold_store.proofs.ObjectLaws.{recordable, said_by, says_by}
 
 module _ (leaf : Leaf) where
-  pub in_rows : (es : List (List ℕ × Inode)) (r : Record) → IsIn r (rows_of leaf es) → (e : List ℕ × Inode) × IsIn e es × (row_of leaf e ≡ r)
+  pub in_rows : (es : List (List ℕ × Inode)) (r : Record) → IsIn r (rows_of leaf es) → (e : List ℕ × Inode) × IsIn e es × (name_record leaf e ≡ r)
   in_rows [] r h = absurd h
   in_rows (e ∷ es) r (inl same) = (e, inl refl, same)
   in_rows (e ∷ es) r (inr rest) = let w = in_rows es r rest in (w.0, inr w.1, w.2)
 
-  pub rows_have : (es : List (List ℕ × Inode)) (e : List ℕ × Inode) → IsIn e es → IsIn (row_of leaf e) (rows_of leaf es)
+  pub rows_have : (es : List (List ℕ × Inode)) (e : List ℕ × Inode) → IsIn e es → IsIn (name_record leaf e) (rows_of leaf es)
   rows_have [] e h = absurd h
-  rows_have (x ∷ es) e (inl same) = inl (ap (row_of leaf) same)
+  rows_have (x ∷ es) e (inl same) = inl (ap (name_record leaf) same)
   rows_have (x ∷ es) e (inr rest) = inr (rows_have es e rest)
 
   -- a record that stands before another has another name
@@ -45,7 +45,7 @@ module _ (leaf : Leaf) where
   names_apart (e ∷ es) (x ∷ before) r behind q sorted is (inl here) same =
       let tail : rows_of leaf es ≡ before ++ r ∷ behind = cc in
       let w = in_rows es r (subst (λ rs. IsIn r rs) (sym tail) (in_right r before (r ∷ behind) (inl refl))) in
-      let head : row_of leaf e ≡ x = cc in
+      let head : name_record leaf e ≡ x = cc in
       below_apart nat_list_cmp_total e.0 es w.0 (left_of _ _ sorted) w.1 (ap (λ (p : Record). p.name) w.2 ∙ sym same ∙ ap (λ (p : Record). p.name) (sym here) ∙ ap (λ (p : Record). p.name) (sym head))
   names_apart (e ∷ es) (x ∷ before) r behind q sorted is (inr rest) same =
       let tail : rows_of leaf es ≡ before ++ r ∷ behind = cc in
@@ -80,29 +80,29 @@ module _ (objects : Objects) where
     pub at : r.leaf ≡ leaf
     pub held : IsHeld r
 
-  pub at_leaf : (leaf : Leaf) (r : Record) → IsIn r (rows_at objects leaf) → IsRowAt leaf r
+  pub at_leaf : (leaf : Leaf) (r : Record) → IsIn r (records_at objects leaf) → IsRowAt leaf r
   at_leaf leaf r h =
-      let w = in_rows leaf (names_in objects leaf) r h in
+      let w = in_rows leaf (stored_names objects leaf) r h in
       subst (λ (q : Record). IsRowAt leaf q) w.2 (record { at = refl; held = get_entry nat_list_cmp_total (names_at (object_of objects leaf.0 leaf.1)) w.0 w.1 })
 
-  pub leaf_has : (r : Record) → IsRecord objects r → IsIn r (rows_at objects r.leaf)
-  leaf_has r rec = rows_have r.leaf (names_in objects r.leaf) (r.name, r.inode) (entry_of exact_bytes (names_at (object_of objects r.leaf.0 r.leaf.1)) r.name r.inode (held_of r rec))
+  pub leaf_has : (r : Record) → IsRecord objects r → IsIn r (records_at objects r.leaf)
+  leaf_has r rec = rows_have r.leaf (stored_names objects r.leaf) (r.name, r.inode) (entry_of exact_bytes (names_at (object_of objects r.leaf.0 r.leaf.1)) r.name r.inode (held_of r rec))
 
-  pub cold_leaf_of : (leaf : Leaf) → HasLeaf (leaves_at objects leaf.0) leaf.1 → IsColdLeaf objects leaf
-  cold_leaf_of leaf has = go (leaves_said (tree_of objects leaf.0)) refl has
+  pub cold_leaf_of : (leaf : Leaf) → HasLeaf (stored_leaves objects leaf.0) leaf.1 → IsColdLeaf objects leaf
+  cold_leaf_of leaf has = go (leaves_said (tree_object_of objects leaf.0)) refl has
     where
-      go : (o : Option (List Fragment)) → leaves_said (tree_of objects leaf.0) ≡ o → HasLeaf (unwrap_or o []) leaf.1 → IsColdLeaf objects leaf
+      go : (o : Option (List Fragment)) → leaves_said (tree_object_of objects leaf.0) ≡ o → HasLeaf (unwrap_or o []) leaf.1 → IsColdLeaf objects leaf
       go None is (k, less, at) = absurd (omega (arith, less))
-      go (Some leaves) is has = (leaves, says_by (tree_of objects leaf.0) leaves is, has)
+      go (Some leaves) is has = (leaves, says_by (tree_object_of objects leaf.0) leaves is, has)
 
-  pub leaves_are : (d : Ino) (leaves : List Fragment) → SaysLeaves (tree_of objects d) leaves → leaves_at objects d ≡ leaves
-  leaves_are d leaves says = ap (λ (o : Option (List Fragment)). unwrap_or o []) (said_by (tree_of objects d) leaves says)
+  pub leaves_are : (d : Ino) (leaves : List Fragment) → SaysLeaves (tree_object_of objects d) leaves → stored_leaves objects d ≡ leaves
+  leaves_are d leaves says = ap (λ (o : Option (List Fragment)). unwrap_or o []) (said_by (tree_object_of objects d) leaves says)
 
-  pub of_cold_leaf : (leaf : Leaf) → IsColdLeaf objects leaf → HasLeaf (leaves_at objects leaf.0) leaf.1
+  pub of_cold_leaf : (leaf : Leaf) → IsColdLeaf objects leaf → HasLeaf (stored_leaves objects leaf.0) leaf.1
   of_cold_leaf leaf (leaves, says, has) = subst (λ ls. HasLeaf ls leaf.1) (sym (leaves_are leaf.0 leaves says)) has
 
   -- a record of one of its directory's leaves is one of the store
-  pub of_leaf : (leaf : Leaf) (r : Record) → IsColdLeaf objects leaf → IsIn r (rows_at objects leaf) → IsRecord objects r
+  pub of_leaf : (leaf : Leaf) (r : Record) → IsColdLeaf objects leaf → IsIn r (records_at objects leaf) → IsRecord objects r
   of_leaf leaf r cold h = let w = at_leaf leaf r h in record_of r (subst (IsColdLeaf objects) (sym w.at) cold) w.held
 
   -- ---- leaves of a directory
@@ -114,41 +114,41 @@ module _ (objects : Objects) where
 
   pub under : (d : Ino) (fs : List Fragment) (r : Record) → IsIn r (rows_under objects d fs) → IsRowUnder d fs r
   under d [] r h = absurd h
-  under d (f ∷ fs) r h = go (under d fs r) (in_either r (rows_at objects (d, f)) (rows_under objects d fs) h)
+  under d (f ∷ fs) r h = go (under d fs r) (in_either r (records_at objects (d, f)) (rows_under objects d fs) h)
     where
-      go : (IsIn r (rows_under objects d fs) → IsRowUnder d fs r) → IsIn r (rows_at objects (d, f)) ⊎ IsIn r (rows_under objects d fs) → IsRowUnder d (f ∷ fs) r
+      go : (IsIn r (rows_under objects d fs) → IsRowUnder d fs r) → IsIn r (records_at objects (d, f)) ⊎ IsIn r (rows_under objects d fs) → IsRowUnder d (f ∷ fs) r
       go more (inl here) = record { frag = f; of = first f fs; at = at_leaf (d, f) r here }
       go more (inr rest) = let w = more rest in record { frag = w.frag; of = later f w.frag fs w.of; at = w.at }
 
-  pub under_has : (d : Ino) (fs : List Fragment) (f : Fragment) (r : Record) → HasLeaf fs f → IsIn r (rows_at objects (d, f)) → IsIn r (rows_under objects d fs)
+  pub under_has : (d : Ino) (fs : List Fragment) (f : Fragment) (r : Record) → HasLeaf fs f → IsIn r (records_at objects (d, f)) → IsIn r (rows_under objects d fs)
   under_has d [] f r (k, less, is) at = absurd (omega (arith, less))
   under_has d (g ∷ fs) f r has at = go (under_has d fs f r) (first_or_later g f fs has)
     where
-      go : (HasLeaf fs f → IsIn r (rows_at objects (d, f)) → IsIn r (rows_under objects d fs)) → (g ≡ f) ⊎ HasLeaf fs f → IsIn r (rows_under objects d (g ∷ fs))
-      go more (inl same) = in_left r _ _ (subst (λ k. IsIn r (rows_at objects (d, k))) (sym same) at)
-      go more (inr rest) = in_right r (rows_at objects (d, g)) _ (more rest at)
+      go : (HasLeaf fs f → IsIn r (records_at objects (d, f)) → IsIn r (rows_under objects d fs)) → (g ≡ f) ⊎ HasLeaf fs f → IsIn r (rows_under objects d (g ∷ fs))
+      go more (inl same) = in_left r _ _ (subst (λ k. IsIn r (records_at objects (d, k))) (sym same) at)
+      go more (inr rest) = in_right r (records_at objects (d, g)) _ (more rest at)
 
   -- ---- directories
 
   pub in_dir : (d : Ino) (r : Record) → IsIn r (rows_in objects d) → (r.leaf.0 ≡ d) × IsRecord objects r
   in_dir d r h =
-      let w = under d (leaves_at objects d) r h in
+      let w = under d (stored_leaves objects d) r h in
       (ap (λ (l : Leaf). l.0) w.at.at, record_of r (subst (IsColdLeaf objects) (sym w.at.at) (cold_leaf_of (d, w.frag) w.of)) w.at.held)
 
-  pub in_dirs : (ds : List Ino) (r : Record) → IsIn r (rows_from objects ds) → IsIn r.leaf.0 ds × IsRecord objects r
+  pub in_dirs : (ds : List Ino) (r : Record) → IsIn r (records_from objects ds) → IsIn r.leaf.0 ds × IsRecord objects r
   in_dirs [] r h = absurd h
-  in_dirs (d ∷ ds) r h = go (in_dirs ds r) (in_either r (rows_in objects d) (rows_from objects ds) h)
+  in_dirs (d ∷ ds) r h = go (in_dirs ds r) (in_either r (rows_in objects d) (records_from objects ds) h)
     where
-      go : (IsIn r (rows_from objects ds) → IsIn r.leaf.0 ds × IsRecord objects r) → IsIn r (rows_in objects d) ⊎ IsIn r (rows_from objects ds) → IsIn r.leaf.0 (d ∷ ds) × IsRecord objects r
+      go : (IsIn r (records_from objects ds) → IsIn r.leaf.0 ds × IsRecord objects r) → IsIn r (rows_in objects d) ⊎ IsIn r (records_from objects ds) → IsIn r.leaf.0 (d ∷ ds) × IsRecord objects r
       go more (inl here) = let w = in_dir d r here in (inl (sym w.0), w.1)
       go more (inr rest) = let w = more rest in (inr w.0, w.1)
 
-  pub dirs_have : (ds : List Ino) (r : Record) → IsIn r.leaf.0 ds → IsRecord objects r → IsIn r (rows_from objects ds)
+  pub dirs_have : (ds : List Ino) (r : Record) → IsIn r.leaf.0 ds → IsRecord objects r → IsIn r (records_from objects ds)
   dirs_have [] r h rec = absurd h
   dirs_have (d ∷ ds) r (inl same) rec =
-      in_left r _ _ (subst (λ k. IsIn r (rows_in objects k)) (sym same) (under_has r.leaf.0 (leaves_at objects r.leaf.0) r.leaf.1 r (of_cold_leaf r.leaf rec.leaf) (leaf_has r rec)))
+      in_left r _ _ (subst (λ k. IsIn r (rows_in objects k)) (sym same) (under_has r.leaf.0 (stored_leaves objects r.leaf.0) r.leaf.1 r (of_cold_leaf r.leaf rec.leaf) (leaf_has r rec)))
   dirs_have (d ∷ ds) r (inr rest) rec = in_right r (rows_in objects d) _ (dirs_have ds r rest rec)
 
-  pub rows_from-snoc : (ds : List Ino) (d : Ino) → rows_from objects (ds ++ d ∷ []) ≡ rows_from objects ds ++ rows_in objects d
+  pub rows_from-snoc : (ds : List Ino) (d : Ino) → records_from objects (ds ++ d ∷ []) ≡ records_from objects ds ++ rows_in objects d
   rows_from-snoc [] d = append-nil (rows_in objects d)
-  rows_from-snoc (e ∷ ds) d = ap (λ rs. rows_in objects e ++ rs) (rows_from-snoc ds d) ∙ sym (append_assoc (rows_in objects e) (rows_from objects ds) (rows_in objects d))
+  rows_from-snoc (e ∷ ds) d = ap (λ rs. rows_in objects e ++ rs) (rows_from-snoc ds d) ∙ sym (append_assoc (rows_in objects e) (records_from objects ds) (rows_in objects d))

@@ -12,7 +12,7 @@ use Rattle.fragtree.specs.FragTree.{IsTree}
 use Rattle.dirfrag_codec.specs.EntryRecord.{IsRecordable}
 use Rattle.inode_table.specs.declared.dirs.Home.{Home}
 use Rattle.inode_table.specs.Dirs.{Covers, Homes, IsTable, Reaches, leaves_of, or_whole}
-use Rattle.cold_store.specs.ColdTree.{IsReached, tree_of}
+use Rattle.cold_store.specs.ColdTree.{IsReached, tree_object_of}
 use Rattle.cold_store.specs.Walked.{IsWalked, WalkedIsTabled}
 use Rattle.cold_store.proofs.ObjectLaws.{said_tree}
 use Rattle.cold_store.proofs.StoreRows.{allowed}
@@ -78,7 +78,7 @@ module _ (objects : Objects) (tree : Tree) (homes : Homes) (covers : Covers) (le
 
   cover_tree : (d : ℕ) (leaves : List Fragment) → map.get covers d ≡ Some leaves → IsTree leaves
   cover_tree d leaves is =
-      subst IsTree (ap or_whole is) (said_tree (tree_of objects (record { 0 = d })) (leaves_of covers d) (w.leaves (record { 0 = d }) (w.rows d leaves is)))
+      subst IsTree (ap or_whole is) (said_tree (tree_object_of objects (record { 0 = d })) (leaves_of covers d) (w.leaves (record { 0 = d }) (w.rows d leaves is)))
 
   table : IsTable homes covers
   table = record { rooted = record { rootless = root_homeless; rooted = λ x home is. climbs x (home_reached x home is) }; known = w.rows; covers = cover_tree }

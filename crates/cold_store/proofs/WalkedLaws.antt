@@ -17,9 +17,9 @@ use Rattle.fragtree.proofs.TreeLaws.{first, first_or_later, later, some_pick}
 use Rattle.dentry_cache.specs.Loading.{Loads, object_of}
 use Rattle.inode_table.specs.Dirs.{Covers, Homes, is_known, leaves_of}
 use Rattle.inode_table.specs.TreeTable.{HoldsHomes}
-use Rattle.cold_store.specs.ColdTree.{HasNoFault, HasRecords, IsColdTree, IsFaulty, IsReached, SaysLeaves, tree_of}
-use Rattle.cold_store.specs.Left.{AreLeft, leaf_texts, texts_from, texts_in}
-use Rattle.cold_store.specs.Rows.{AreGoodDirs, Finding, IsIn, IsWalkedTo, Shape, covers_from, rows_from, start, with_rows}
+use Rattle.cold_store.specs.ColdTree.{HasNoFault, HasRecords, IsColdTree, IsFaulty, IsReached, SaysLeaves, tree_object_of}
+use Rattle.cold_store.specs.Left.{AreAllBut, leaf_texts, texts_from, texts_in}
+use Rattle.cold_store.specs.Rows.{AreGoodDirs, Finding, IsIn, IsWalkedTo, Walked, covers_from, records_from, root_alone, with_rows}
 use Rattle.cold_store.specs.Walked.{IsReachedObject, IsWalked}
 use Rattle.cold_store.proofs.Members.{in_either, in_left, in_right}
 use Rattle.cold_store.proofs.ObjectLaws.{said_tree, whole_loads}
@@ -57,27 +57,27 @@ text_among covers (d ∷ ds) name h = go (in_either name (texts_in covers d) (te
 
 -- ---- what was found
 
-module _ (objects : Objects) (finding : Finding) (left : Keys) (w : IsWalkedTo objects finding (length finding.shape.queue)) (rest : AreLeft objects (texts_from finding.covers finding.shape.queue) left) where
+module _ (objects : Objects) (finding : Finding) (left : Keys) (w : IsWalkedTo objects finding (length finding.shape.queue)) (rest : AreAllBut objects (texts_from finding.covers finding.shape.queue) left) where
   abbrev queue : List Ino
   queue = finding.shape.queue
 
   all : take (length queue) queue ≡ queue
   all = take_all (length queue) queue (omega arith)
 
-  good : AreGoodDirs objects start queue
-  good = subst (λ ds. AreGoodDirs objects start ds) all w.good
+  good : AreGoodDirs objects root_alone queue
+  good = subst (λ ds. AreGoodDirs objects root_alone ds) all w.good
 
-  walked : finding.shape ≡ with_rows start (rows_from objects queue)
-  walked = w.walked ∙ ap (λ ds. with_rows start (rows_from objects ds)) all
+  walked : finding.shape ≡ with_rows root_alone (records_from objects queue)
+  walked = w.walked ∙ ap (λ ds. with_rows root_alone (records_from objects ds)) all
 
   covered : finding.covers ≡ covers_from objects map.empty queue
   covered = w.covered ∙ ap (λ ds. covers_from objects map.empty ds) all
 
-  whole : queue ≡ record { 0 = 1 } ∷ dirs_of (rows_from objects queue)
-  whole = ap (λ (t : Shape). t.queue) walked ∙ queue_after start (rows_from objects queue)
+  whole : queue ≡ record { 0 = 1 } ∷ dirs_of (records_from objects queue)
+  whole = ap (λ (t : Walked). t.queue) walked ∙ queue_after root_alone (records_from objects queue)
 
-  says : (d : Ino) → IsIn d queue → SaysLeaves (tree_of objects d) (leaves_of finding.covers d.0)
-  says d h = subst (λ c. SaysLeaves (tree_of objects d) (leaves_of c d.0)) (sym covered) (found_says objects queue good w.reached whole d h)
+  says : (d : Ino) → IsIn d queue → SaysLeaves (tree_object_of objects d) (leaves_of finding.covers d.0)
+  says d h = subst (λ c. SaysLeaves (tree_object_of objects d) (leaves_of c d.0)) (sym covered) (found_says objects queue good w.reached whole d h)
 
   reached_text : (name : List ℕ) → IsReachedObject objects name → IsIn name (texts_from finding.covers queue)
   reached_text name (inl (leaf, above, cold, is)) =
@@ -104,15 +104,15 @@ module _ (objects : Objects) (finding : Finding) (left : Keys) (w : IsWalkedTo o
       go (inr stays) = inr stays
 
   known_in : (d : ℕ) → is_known finding.shape.homes d ≡ true → IsIn (record { 0 = d }) queue
-  known_in d known = known_found objects queue good w.reached whole d (subst (λ (t : Shape). is_known t.homes d ≡ true) walked known)
+  known_in d known = known_found objects queue good w.reached whole d (subst (λ (t : Walked). is_known t.homes d ≡ true) walked known)
 
   pub is_walked : IsWalked objects finding.shape.tree finding.shape.homes finding.covers left
   is_walked = record {
     whole = whole_leaf objects queue good w.reached whole;
     once = once objects queue good w.reached whole;
-    records = subst (λ (t : Shape). HasRecords objects t.tree) (sym walked) (records objects queue good w.reached whole);
-    homes_held = subst (λ (t : Shape). HoldsHomes t.tree t.homes) (sym walked) (homes_held objects queue good w.reached whole);
-    rows = λ d leaves is. subst (λ (t : Shape). is_known t.homes d ≡ true) (sym walked) (row_known objects queue good w.reached whole d leaves (subst (λ c. map.get c d ≡ Some leaves) covered is));
+    records = subst (λ (t : Walked). HasRecords objects t.tree) (sym walked) (records objects queue good w.reached whole);
+    homes_held = subst (λ (t : Walked). HoldsHomes t.tree t.homes) (sym walked) (homes_held objects queue good w.reached whole);
+    rows = λ d leaves is. subst (λ (t : Walked). is_known t.homes d ≡ true) (sym walked) (row_known objects queue good w.reached whole d leaves (subst (λ c. map.get c d ≡ Some leaves) covered is));
     leaves = λ dir known. says dir (known_in dir.0 known);
     bare = λ dir object known there. bare objects queue good w.reached whole dir object (known_in dir.0 known) there;
     reached_or_left = reached_or_left;
@@ -122,10 +122,10 @@ module _ (objects : Objects) (finding : Finding) (left : Keys) (w : IsWalkedTo o
 
 -- the same of equal parts
 pub walked_as : (objects now : Objects) (finding : Finding) (left keys : Keys) (tree : Tree) (homes : Homes) (covers : Covers) → IsWalkedTo objects finding (length finding.shape.queue) → now ≡ objects
-    → AreLeft now (texts_from finding.covers finding.shape.queue) left → tree ≡ finding.shape.tree → homes ≡ finding.shape.homes → covers ≡ finding.covers → keys ≡ left → IsWalked objects tree homes covers keys
+    → AreAllBut now (texts_from finding.covers finding.shape.queue) left → tree ≡ finding.shape.tree → homes ≡ finding.shape.homes → covers ≡ finding.covers → keys ≡ left → IsWalked objects tree homes covers keys
 walked_as objects now finding left keys tree homes covers w same rest t h c k =
     let parts : ◌≡◌ {A = Tree × Homes × Covers × Keys} (finding.shape.tree, finding.shape.homes, finding.covers, left) (tree, homes, covers, keys) = λ i. (sym t i, sym h i, sym c i, sym k i) in
-    subst (λ (p : Tree × Homes × Covers × Keys). IsWalked objects p.0 p.1 p.2 p.3) parts (is_walked objects finding left w (subst (λ o. AreLeft o (texts_from finding.covers finding.shape.queue) left) same rest))
+    subst (λ (p : Tree × Homes × Covers × Keys). IsWalked objects p.0 p.1 p.2 p.3) parts (is_walked objects finding left w (subst (λ o. AreAllBut o (texts_from finding.covers finding.shape.queue) left) same rest))
 
 -- ---- what was walked is the cold tree
 
@@ -145,7 +145,7 @@ module _ (objects : Objects) (tree : Tree) (homes : Homes) (covers : Covers) (le
   some_object : objects ≡ map.empty → ⊥
   some_object none =
       let says = w.leaves (record { 0 = 1 }) refl in
-      let p = some_pick (leaves_of covers 1) 0 (said_tree (tree_of objects (record { 0 = 1 })) (leaves_of covers 1) says) in
+      let p = some_pick (leaves_of covers 1) 0 (said_tree (tree_object_of objects (record { 0 = 1 })) (leaves_of covers 1) says) in
       whole_loads p.0 (object_of objects (record { 0 = 1 }) p.0) (w.whole (record { 0 = 1 }, p.0) IsReached.root (leaves_of covers 1, says, p.1.stands))
       (subst (λ o. Loads p.0 o None) (sym (ap (λ m. object_of m (record { 0 = 1 }) p.0) none ∙ get-empty _ _)) tt)
 

@@ -12,13 +12,13 @@ use Rattle.mds_types.specs.declared.object_names.ObjName.TheVariants.{Frag as Fr
 use Rattle.objstore.specs.Omap.{Omap}
 use Rattle.objstore.specs.Objects.{Objects}
 use Rattle.fragtree.specs.FragTree.{HasLeaf}
-use Rattle.dirfrag_codec.specs.FragmentObject.{SpellsTreeObject, names_of}
+use Rattle.dirfrag_codec.specs.FragmentObject.{SpellsTreeObject, names_of_pairs}
 use Rattle.dirfrag_codec.specs.TreeObject.{SpellsTree}
 use Rattle.dentry_cache.specs.Loading.{Loads, object_of}
 
 -- the object of a directory's tree
-abbrev pub tree_of : Objects → Ino → Option Omap
-tree_of objects dir = map.get objects (object_text (TreeOf dir))
+abbrev pub tree_object_of : Objects → Ino → Option Omap
+tree_object_of objects dir = map.get objects (object_text (TreeOf dir))
 
 -- the leaves that a tree object says: `*` alone where it is absent, none where its header is off the grammar
 abbrev pub SaysLeaves : Option Omap → List Fragment → Type 0
@@ -27,7 +27,7 @@ SaysLeaves (Some object) leaves = SpellsTree object.header leaves
 
 -- a leaf of its directory, as the store has it
 abbrev pub IsColdLeaf : Objects → Leaf → Type 0
-IsColdLeaf objects leaf = (leaves : List Fragment) × SaysLeaves (tree_of objects leaf.0) leaves × HasLeaf leaves leaf.1
+IsColdLeaf objects leaf = (leaves : List Fragment) × SaysLeaves (tree_object_of objects leaf.0) leaves × HasLeaf leaves leaf.1
 
 -- a record: the leaf in whose object it stands, its name and its inode
 pub record Record : Type 0 where
@@ -40,7 +40,7 @@ pub record IsRecord (objects : Objects) (r : Record) : Type 0 where
   pub leaf : IsColdLeaf objects r.leaf
   pub object : Omap
   pub there : object_of objects r.leaf.0 r.leaf.1 ≡ Some object
-  pub stands : map.get (names_of object.pairs) r.name ≡ Some r.inode
+  pub stands : map.get (names_of_pairs object.pairs) r.name ≡ Some r.inode
 
 -- the reached directories, the least set: the root, 1, and each directory that a record of a reached one names
 pub data IsReached (objects : Objects) : ℕ → Type 0 where
@@ -55,7 +55,7 @@ IsSamePlace r q = (r.leaf ≡ q.leaf) × (r.name ≡ q.name)
 -- the faulty objects among those of reached directories
 pub data IsFaulty (objects : Objects) : ObjName → Type 0 where
   -- a tree object off the grammar, or with pairs
-  bad_tree : (dir : Ino) (object : Omap) → IsReached objects dir.0 → tree_of objects dir ≡ Some object
+  bad_tree : (dir : Ino) (object : Omap) → IsReached objects dir.0 → tree_object_of objects dir ≡ Some object
       → ((leaves : List Fragment) → SpellsTreeObject object leaves → ⊥) → IsFaulty objects (TreeOf dir)
   -- a leaf's object that is absent, or doesn't spell a fragment whole: header, keys, records and counts, and each name
   -- in its leaf

@@ -14,7 +14,7 @@ pub record IsOfRank (tree : Tree) (rank : ℕ) (dentry : Dentry) (inode : Inode)
 
 -- the next number of a rank: one more than the greatest number of its range in the tree, or the first of the range,
 -- where there is none
-pub record IsNext (tree : Tree) (s : Supply) : Type 0 where
+pub record IsNextNumber (tree : Tree) (s : Supply) : Type 0 where
   pub above : (dentry : Dentry) (inode : Inode) → IsOfRank tree s.rank dentry inode → inode.ino.0 < s.next
   pub tight : (s.next ≡ first_number s.rank)
       ⊎ ((dentry : Dentry) × (inode : Inode) × IsOfRank tree s.rank dentry inode × (s.next ≡ inode.ino.0 + 1))

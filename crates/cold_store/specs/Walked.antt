@@ -16,7 +16,7 @@ use Rattle.dirfrag_codec.specs.FragmentObject.{Names}
 use Rattle.dentry_cache.specs.Loading.{IsSaved, object_of}
 use Rattle.inode_table.specs.Dirs.{Covers, Homes, IsTable, is_known, leaves_of}
 use Rattle.inode_table.specs.TreeTable.{HoldsHomes, IsTabled}
-use Rattle.cold_store.specs.ColdTree.{HasRecords, IsColdLeaf, IsFaulty, IsReached, IsRecord, IsSamePlace, Record, SaysLeaves, tree_of}
+use Rattle.cold_store.specs.ColdTree.{HasRecords, IsColdLeaf, IsFaulty, IsReached, IsRecord, IsSamePlace, Record, SaysLeaves, tree_object_of}
 
 -- an object is that of a reached leaf, or the tree object of a reached directory
 abbrev pub IsReachedObject : Objects → List ℕ → Type 0
@@ -37,8 +37,8 @@ pub record IsWalked (objects : Objects) (tree : Tree) (homes : Homes) (covers : 
   pub homes_held : HoldsHomes tree homes
   -- only directories have rows of leaves; the leaves of each are those that its tree object says, and that has no pairs
   pub rows : (d : ℕ) (leaves : List Fragment) → map.get covers d ≡ Some leaves → is_known homes d ≡ true
-  pub leaves : (dir : Ino) → is_known homes dir.0 ≡ true → SaysLeaves (tree_of objects dir) (leaves_of covers dir.0)
-  pub bare : (dir : Ino) (object : Omap) → is_known homes dir.0 ≡ true → tree_of objects dir ≡ Some object
+  pub leaves : (dir : Ino) → is_known homes dir.0 ≡ true → SaysLeaves (tree_object_of objects dir) (leaves_of covers dir.0)
+  pub bare : (dir : Ino) (object : Omap) → is_known homes dir.0 ≡ true → tree_object_of objects dir ≡ Some object
       → object.pairs ≡ map.empty
   -- each object was reached or is left, none both, and what is left is there
   pub reached_or_left : (name : List ℕ) → is_some (map.get objects name) ≡ true → IsReachedObject objects name

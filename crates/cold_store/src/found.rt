@@ -7,7 +7,7 @@ ghost use Rattle.mds_types.specs.Tree.{dentry_cmp, is_dir_kind};
 ghost use Rattle.mds_types.specs.declared.refusals.Refusal.TheVariants.{NoMemory};
 ghost use Rattle.inode_table.specs.Dirs.{is_known};
 ghost use Rattle.inode_table.specs.TreeTable.{IsCounted};
-ghost use Rattle.cold_store.specs.Rows.{IsReady, is_met, queued, start, with_entry};
+ghost use Rattle.cold_store.specs.Rows.{IsMetDir, is_met, queued, root_alone, walked_with};
 
 use inode_table::{BoxedTree, Dirs, adopt_dir};
 use mds_types::{Dentry, Ino, Inode, Name, Refusal};
@@ -54,7 +54,7 @@ impl Model for Found {
 impl Found {
     /// The root alone, whose number counts as met.
     pub fn new(alloc: Global) -> Result<Found, AllocError>
-        ensures { IfOk result (λ found. found ≡ record { shape = start; covers = map.empty }) }
+        ensures { IfOk result (λ found. found ≡ record { shape = root_alone; covers = map.empty }) }
     {
         let mut queue = Vec::new(alloc);
         queue.push(Ino::ROOT)?;
@@ -113,10 +113,10 @@ impl Found {
 
     /// Adds the entry of a name in a directory, unless the inode's number was met; tells whether it wasn't.
     pub fn add(&mut self, dir: Ino, name: Name, inode: Inode) -> Result<bool, Refusal>
-        requires { IsReady self.old.shape dir.0 }
+        requires { IsMetDir self.old.shape dir.0 }
         ensures new { IfOk result (λ new. new ≡ not (is_met self.old.shape inode.ino.0)) }
         ensures added { IfOk result
-            (λ new. new ≡ true → self.new.shape ≡ with_entry self.old.shape (record { dir = dir; name = name }) inode) }
+            (λ new. new ≡ true → self.new.shape ≡ walked_with self.old.shape (record { dir = dir; name = name }) inode) }
         ensures covers { self.new.covers ≡ self.old.covers }
         ensures refused { IfErr result (λ reason. reason ≡ NoMemory) }
     {

@@ -11,8 +11,8 @@ ghost use Rattle.inode_table.specs.Dirs.{is_known, or_whole};
 ghost use Rattle.dentry_cache.specs.Calls.{AreCalls, calls_to_load};
 ghost use Rattle.dentry_cache.specs.Loading.{object_of};
 ghost use Rattle.cold_store.specs.Calls.{AreDirCalls, AreLeafCalls, calls_for_tree};
-ghost use Rattle.cold_store.specs.ColdTree.{tree_of};
-ghost use Rattle.cold_store.specs.Rows.{AreGoodLeaves, IsBadAmong, IsBadIn, IsBadLeaf, IsBadTree, IsGoodDir, IsGoodLeaf, IsGoodTree, IsReady, HasPairs, MayNotAdd, are_new, cover_in, rows_at, rows_in, rows_of, rows_under, with_cover, with_rows};
+ghost use Rattle.cold_store.specs.ColdTree.{tree_object_of};
+ghost use Rattle.cold_store.specs.Rows.{AreGoodLeaves, IsBadAmong, IsBadIn, IsBadLeaf, IsBadTree, IsGoodDir, IsGoodLeaf, IsGoodTree, IsMetDir, HasPairs, MayNotAdd, are_new, cover_in, records_at, rows_in, rows_of, rows_under, with_cover, with_rows};
 ghost use Rattle.cold_store.specs.Walked.{MayFail};
 
 use crate::found::Found;
@@ -36,7 +36,7 @@ pub fn take_dir<S: Store>(
     found: &mut Found,
     dir: Ino,
 ) -> Result<(), Refusal>
-    requires { IsReady found.old.shape dir.0 }
+    requires { IsMetDir found.old.shape dir.0 }
     ensures good { OnOk result (IsGoodDir (S.objects store.old) found.old.shape dir) }
     ensures added { OnOk result (found.new.shape ≡ with_rows found.old.shape (rows_in (S.objects store.old) dir)) }
     ensures covers { OnOk result
@@ -56,12 +56,12 @@ pub fn take_dir<S: Store>(
 
 // The tree that a directory's tree object spells, if the object is there.
 fn read_tree<S: Store>(alloc: Global, store: &mut S, dir: Ino) -> Result<Option<FragTree>, Refusal>
-    ensures good { IfOk result (IsGoodTree (tree_of (S.objects store.old) dir)) }
+    ensures good { IfOk result (IsGoodTree (tree_object_of (S.objects store.old) dir)) }
     ensures refused { IfErr result (MayFail (λ name. (name ≡ TreeOf dir)
-        × IsBadTree (tree_of (S.objects store.old) dir)) (S.faults store.old) (S.faults store.new)) }
+        × IsBadTree (tree_object_of (S.objects store.old) dir)) (S.faults store.old) (S.faults store.new)) }
     ensures same { S.objects store.new ≡ S.objects store.old }
     ensures counted { S.faults store.new ≡ S.faults store.old + faults_told (result_err result) }
-    ensures called { AreCalls S.IsCall (calls_for_tree (tree_of (S.objects store.old) dir)) store.old
+    ensures called { AreCalls S.IsCall (calls_for_tree (tree_object_of (S.objects store.old) dir)) store.old
         (result_err result) store.new }
 {
     let text = Spelt::of(ObjName::Tree(dir));
@@ -135,7 +135,7 @@ fn take_leaves<S: Store>(
     dir: Ino,
     leaves: &[Frag],
 ) -> Result<(), Refusal>
-    requires { IsReady found.old.shape dir.0 }
+    requires { IsMetDir found.old.shape dir.0 }
     ensures good { OnOk result (AreGoodLeaves (S.objects store.old) found.old.shape dir leaves.now) }
     ensures added { OnOk result
         (found.new.shape ≡ with_rows found.old.shape (rows_under (S.objects store.old) dir leaves.now)) }
@@ -164,11 +164,11 @@ fn take_leaf<S: Store>(
     dir: Ino,
     frag: Frag,
 ) -> Result<(), Refusal>
-    requires { IsReady found.old.shape dir.0 }
+    requires { IsMetDir found.old.shape dir.0 }
     ensures good { OnOk result (IsGoodLeaf (S.objects store.old) found.old.shape (dir, frag)) }
     ensures added { OnOk result
-        (found.new.shape ≡ with_rows found.old.shape (rows_at (S.objects store.old) (dir, frag))) }
-    ensures ready { OnOk result (IsReady found.new.shape dir.0) }
+        (found.new.shape ≡ with_rows found.old.shape (records_at (S.objects store.old) (dir, frag))) }
+    ensures ready { OnOk result (IsMetDir found.new.shape dir.0) }
     ensures covers { found.new.covers ≡ found.old.covers }
     ensures refused { IfErr result (MayFail (λ name. (name ≡ FragOf dir frag)
         × IsBadLeaf (S.objects store.old) found.old.shape (dir, frag)) (S.faults store.old) (S.faults store.new)) }
@@ -190,12 +190,12 @@ fn add_names(
     frag: Frag,
     names: SortedMap<Name, Inode>,
 ) -> Result<(), Refusal>
-    requires { IsReady found.old.shape dir.0 }
+    requires { IsMetDir found.old.shape dir.0 }
     ensures good { OnOk result
         (are_new found.old.shape (rows_of (dir, frag) (map.entries (contents key_cmp names))) ≡ true) }
     ensures added { OnOk result
         (found.new.shape ≡ with_rows found.old.shape (rows_of (dir, frag) (map.entries (contents key_cmp names)))) }
-    ensures ready { OnOk result (IsReady found.new.shape dir.0) }
+    ensures ready { OnOk result (IsMetDir found.new.shape dir.0) }
     ensures covers { found.new.covers ≡ found.old.covers }
     ensures refused { IfErr result
         (MayNotAdd dir frag (are_new found.old.shape (rows_of (dir, frag) (map.entries (contents key_cmp names))))) }

@@ -8,7 +8,7 @@ ghost use Rattle.objstore.specs.Omap.{key_cmp};
 ghost use Rattle.objstore.specs.Objects.{MayRefuse, faults_told};
 ghost use Rattle.dentry_cache.specs.Calls.{AreCalls};
 ghost use Rattle.cold_store.specs.Calls.{NamesLeft, name_pages};
-ghost use Rattle.cold_store.specs.Left.{AreLeft, AreNamesOf, EndsNames, IsLastOf, leaf_texts, texts_from, texts_in, with_keys, without_keys};
+ghost use Rattle.cold_store.specs.Left.{AreAllBut, AreNamesOf, EndsNames, IsLastOf, leaf_texts, texts_from, texts_in, with_keys, keys_without};
 
 use crate::found::Found;
 use inode_table::Dirs;
@@ -27,7 +27,7 @@ pub fn list_left<S: Store>(
     found: &Found,
 ) -> Result<SortedMap<ObjText, ()>, Refusal>
     ensures left { IfOk result
-        (λ left. AreLeft (S.objects store.old) (texts_from found.now.covers found.now.shape.queue)
+        (λ left. AreAllBut (S.objects store.old) (texts_from found.now.covers found.now.shape.queue)
         (contents key_cmp left)) }
     ensures refused { IfErr result (MayRefuse (S.faults store.old) (S.faults store.new)) }
     ensures same { S.objects store.new ≡ S.objects store.old }
@@ -135,7 +135,7 @@ fn take_off(
     queue: &[Ino],
 ) -> Result<(), AllocError>
     ensures { OnOk result
-        (contents key_cmp left.new ≡ without_keys (contents key_cmp left.old) (texts_from dirs.now.trees queue.now)) }
+        (contents key_cmp left.new ≡ keys_without (contents key_cmp left.old) (texts_from dirs.now.trees queue.now)) }
 {
     for dir in queue {
         take_off_dir(alloc, left, dirs, *dir)?;
@@ -151,7 +151,7 @@ fn take_off_dir(
     dir: Ino,
 ) -> Result<(), AllocError>
     ensures { OnOk result
-        (contents key_cmp left.new ≡ without_keys (contents key_cmp left.old) (texts_in dirs.now.trees dir)) }
+        (contents key_cmp left.new ≡ keys_without (contents key_cmp left.old) (texts_in dirs.now.trees dir)) }
 {
     take_off_name(left, ObjName::Tree(dir));
     let leaves = dirs.tree(alloc, dir)?.leaves(alloc)?;
@@ -161,7 +161,7 @@ fn take_off_dir(
 
 // Takes the names of the objects of leaves off.
 fn take_off_leaves(left: &mut SortedMap<ObjText, ()>, dir: Ino, leaves: &[Frag])
-    ensures { contents key_cmp left.new ≡ without_keys (contents key_cmp left.old) (leaf_texts dir leaves.now) }
+    ensures { contents key_cmp left.new ≡ keys_without (contents key_cmp left.old) (leaf_texts dir leaves.now) }
 {
     for leaf in leaves {
         take_off_name(left, ObjName::Frag(dir, *leaf));

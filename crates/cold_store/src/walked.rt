@@ -4,7 +4,7 @@ ghost use Rattle.std.specs.FinMap as map;
 ghost use Rattle.sorted_map.specs.SortedMap.{contents};
 ghost use Rattle.mds_types.specs.Tree.{dentry_cmp};
 ghost use Rattle.inode_table.specs.TreeTable.{IsCounted, IsTabled};
-ghost use Rattle.cold_store.specs.Numbers.{IsNext, passed};
+ghost use Rattle.cold_store.specs.Numbers.{IsNextNumber, passed};
 
 use crate::found::Found;
 use inode_table::{Dirs, Numbers, count_entries};
@@ -56,7 +56,7 @@ impl Walked {
     pub fn numbers(&self, rank: Rank) -> Numbers
         requires { rank.0 < 16 }
         ensures rank { result.rank ≡ rank.0 }
-        ensures next { IsNext (contents dentry_cmp self.now.entries) result }
+        ensures next { IsNextNumber (contents dentry_cmp self.now.entries) result }
     {
         let mut next = Numbers::first_of(rank).0;
         let end = next + PER_RANK;

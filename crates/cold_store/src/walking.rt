@@ -9,7 +9,7 @@ ghost use Rattle.objstore.specs.Objects.{faults_told};
 ghost use Rattle.inode_table.specs.TreeTable.{IsCounted};
 ghost use Rattle.cold_store.specs.Calls.{AreWalkCalls, IsWhollyRead};
 ghost use Rattle.cold_store.specs.ColdTree.{IsColdTree};
-ghost use Rattle.cold_store.specs.Rows.{IsWalkedTo, start};
+ghost use Rattle.cold_store.specs.Rows.{IsWalkedTo, root_alone};
 ghost use Rattle.cold_store.specs.Walked.{IsWalked, MayNotWalk};
 
 use crate::found::Found;
@@ -73,7 +73,7 @@ fn find<S: Store>(alloc: Global, store: &mut S) -> Result<Found, Refusal>
 
 // Adds the entries of all directories that are found.
 fn take_dirs<S: Store>(alloc: Global, store: &mut S, found: &mut Found) -> Result<(), Refusal>
-    requires { found.old ≡ record { shape = start; covers = map.empty } }
+    requires { found.old ≡ record { shape = root_alone; covers = map.empty } }
     ensures found { OnOk result (IsWalkedTo (S.objects store.old) found.new (length found.new.shape.queue)) }
     ensures refused { IfErr result (MayNotWalk (S.objects store.old) (S.faults store.old) (S.faults store.new)) }
     ensures same { S.objects store.new ≡ S.objects store.old }

@@ -1,5 +1,5 @@
 -- What is a candidate, and what one leaf's new size makes of the others.
-use Rattle.dentry_cache.proofs.Common.{Bool, Fragment, IsFragment, IsLargeIn, IsResized, IsSmallIn, IsSome, None, Option, Sizes, Some, SomeIff, and_from, and_parts, ap, are_few, arith, both, cases_lt, child, child_of, cond, div-add-mod, entries_in, false, false_from_ne_true, inl, inr, is_few, is_large, leaf_or_apart, mod-mul-add, mul-le-mul_right, nat_le, nat_lt, nat_tests, one_leaf, pow_pos, refl, same_leaf, span, span-split, subst, suc, sym, together, true, unwrap_or, zero, ℕ, ◌%◌, ◌*◌, ◌+◌, ◌-◌, ◌/◌, ◌<◌, ◌∙◌, ◌≡◌, ◌≢◌, ◌≤◌, ◌⊎◌}
+use Rattle.dentry_cache.proofs.Common.{Bool, Fragment, IsFragment, IsLargeIn, IsResized, IsSmallIn, IsSome, None, Option, Sizes, Some, SomeIff, and_from, and_parts, ap, are_few, arith, both, cases_lt, child, child_of, cond, div-add-mod, entries_of_children, false, false_from_ne_true, inl, inr, is_few, is_large, leaf_or_apart, mod-mul-add, mul-le-mul_right, nat_le, nat_lt, nat_tests, one_leaf, pow_pos, refl, same_leaf, span, span-split, subst, suc, sym, together, true, unwrap_or, zero, ℕ, ◌%◌, ◌*◌, ◌+◌, ◌-◌, ◌/◌, ◌<◌, ◌∙◌, ◌≡◌, ◌≢◌, ◌≤◌, ◌⊎◌}
 use Rattle.mds_types.specs.Leaf.{Leaf, leaf_is}
 
 -- ---- large leaves
@@ -63,20 +63,20 @@ pub few_there : (o : Option ℕ) → is_few o ≡ true → IsSome o
 few_there None is = is
 few_there (Some n) is = refl
 
-entries_are : (sizes : Sizes) (whole : Leaf) (n m : ℕ) → together sizes whole n ≡ Some m → entries_in sizes whole n ≡ m
+entries_are : (sizes : Sizes) (whole : Leaf) (n m : ℕ) → together sizes whole n ≡ Some m → entries_of_children sizes whole n ≡ m
 entries_are sizes whole zero m is = let e : 0 ≡ m = cc in e
 entries_are sizes whole (suc n) m is = go (entries_are sizes whole n) (both_some (sizes (child whole n)) (together sizes whole n) m is)
   where
-    go : ((k : ℕ) → together sizes whole n ≡ Some k → entries_in sizes whole n ≡ k) → (a : ℕ) × (k : ℕ) × (sizes (child whole n) ≡ Some a) × (together sizes whole n ≡ Some k) × (m ≡ a + k) → unwrap_or (sizes (child whole n)) 0 + entries_in sizes whole n ≡ m
+    go : ((k : ℕ) → together sizes whole n ≡ Some k → entries_of_children sizes whole n ≡ k) → (a : ℕ) × (k : ℕ) × (sizes (child whole n) ≡ Some a) × (together sizes whole n ≡ Some k) × (m ≡ a + k) → unwrap_or (sizes (child whole n)) 0 + entries_of_children sizes whole n ≡ m
     go before (a, k, here, rest, sum) =
         let first : unwrap_or (sizes (child whole n)) 0 ≡ a = ap (λ o. unwrap_or o 0) here in
         omega (arith, first, sum, before k rest)
 
-together_is : (sizes : Sizes) (whole : Leaf) (n : ℕ) → ((i : ℕ) → i < n → IsSome (sizes (child whole i))) → together sizes whole n ≡ Some (entries_in sizes whole n)
+together_is : (sizes : Sizes) (whole : Leaf) (n : ℕ) → ((i : ℕ) → i < n → IsSome (sizes (child whole i))) → together sizes whole n ≡ Some (entries_of_children sizes whole n)
 together_is sizes whole zero each = refl
 together_is sizes whole (suc n) each = go (sizes (child whole n)) (each n (omega arith)) (together_is sizes whole n (λ i lt. each i (omega (arith, lt))))
   where
-    go : (o : Option ℕ) → IsSome o → together sizes whole n ≡ Some (entries_in sizes whole n) → both o (together sizes whole n) ≡ Some (unwrap_or o 0 + entries_in sizes whole n)
+    go : (o : Option ℕ) → IsSome o → together sizes whole n ≡ Some (entries_of_children sizes whole n) → both o (together sizes whole n) ≡ Some (unwrap_or o 0 + entries_of_children sizes whole n)
     go None some rest = let clash : false ≡ true = some in absurd cc
     go (Some a) some rest = ap (both (Some a)) rest
 
@@ -88,7 +88,7 @@ small_from sizes whole fragment is =
 
 pub small_to : (sizes : Sizes) (whole : Leaf) → IsSmallIn sizes whole → are_few sizes whole ≡ true
 small_to sizes whole is =
-    let less : nat_lt (entries_in sizes whole 8) 50 ≡ true = grind (arith, nat_tests, is.few) in
+    let less : nat_lt (entries_of_children sizes whole 8) 50 ≡ true = grind (arith, nat_tests, is.few) in
     ap is_few (together_is sizes whole 8 is.cached) ∙ less
 
 -- the loop over eight children: what is missing, or too many, stays so

@@ -1,5 +1,5 @@
 -- The candidates of a cache, step by step.
-use Rattle.dentry_cache.proofs.Common.{AreCandidates, AreSets, AreTold, Bool, Cached, Candidates, Fragment, HasRoomFor, Held, IsDistinct, IsFragment, IsLargeIn, IsNext, IsResized, IsSmallIn, IsSome, List, MayResize, None, Option, Place, Places, Rise, Sizes, Some, [], ap, are_few, arith, child, child_of, cond, false, flips, fragment_in, inl, inr, is_few, is_in, is_kept, is_large, keys_of, leaf_equivalence, leaf_is, leaf_itself, length, length-set_value, lookup, lookup-set_value, lru_cache, one_leaf, promoted, refl, remove_entry, same_Some, same_leaf, set_value, shown, size_in, sizes_of, subst, suc, sym, true, used_as, ℕ, ◌+◌, ◌<◌, ◌||◌, ◌∙◌, ◌∷◌, ◌≡◌, ◌≢◌, ◌≤◌, ◌⊎◌}
+use Rattle.dentry_cache.proofs.Common.{AreCandidates, AreSets, AreTold, Bool, Cached, Candidates, Fragment, HasRoomFor, Held, IsDistinct, IsFragment, IsLargeIn, IsNextLeaf, IsResized, IsSmallIn, IsSome, List, MayResize, None, Option, Place, Places, Rise, Sizes, Some, [], ap, are_few, arith, child, child_of, cond, false, flips, fragment_in, inl, inr, is_few, is_leaf_in, is_kept, is_large, keys_of, leaf_equivalence, leaf_is, leaf_itself, length, length-set_value, lookup, lookup-set_value, lru_cache, one_leaf, promoted, refl, remove_entry, same_Some, same_leaf, set_value, shown_names, size_in, sizes_of, subst, suc, sym, true, used_as, ℕ, ◌+◌, ◌<◌, ◌||◌, ◌∙◌, ◌∷◌, ◌≡◌, ◌≢◌, ◌≤◌, ◌⊎◌}
 use Rattle.std.specs.FinMap as finmap
 use Rattle.mds_types.specs.Leaf.{Leaf}
 use Rattle.dentry_cache.proofs.CandidateLaws.{beside, large_from, large_now, large_to, none_changes, small_from, small_to}
@@ -20,15 +20,15 @@ none_yet large small e f = subst (λ xs. AreSets (λ leaf. None) xs small) (sym 
 }))
 
 module _ (sizes : Sizes) (large small : List Leaf) (sets : AreSets sizes large small) (after r : Option Leaf) where
-  pub next_large : IsNext (λ (leaf : Leaf). is_in leaf large ≡ true) after r → IsNext (IsLargeIn sizes) after r
+  pub next_large : IsNextLeaf (λ (leaf : Leaf). is_leaf_in leaf large ≡ true) after r → IsNextLeaf (IsLargeIn sizes) after r
   next_large next =
-      next_as (λ (leaf : Leaf). is_in leaf large ≡ true) (IsLargeIn sizes) after r
+      next_as (λ (leaf : Leaf). is_leaf_in leaf large ≡ true) (IsLargeIn sizes) after r
       (λ leaf is. large_from sizes leaf (sym (sets.large_are leaf) ∙ is))
       (λ leaf is. sets.large_are leaf ∙ large_to sizes leaf is) next
 
-  pub next_small : IsNext (λ (leaf : Leaf). is_in leaf small ≡ true) after r → IsNext (IsSmallIn sizes) after r
+  pub next_small : IsNextLeaf (λ (leaf : Leaf). is_leaf_in leaf small ≡ true) after r → IsNextLeaf (IsSmallIn sizes) after r
   next_small next =
-      next_as (λ (leaf : Leaf). is_in leaf small ≡ true) (IsSmallIn sizes) after r
+      next_as (λ (leaf : Leaf). is_leaf_in leaf small ≡ true) (IsSmallIn sizes) after r
       (λ whole is. small_from sizes whole (sets.fragments whole is) (sym (sets.small_are whole (sets.fragments whole is)) ∙ is))
       (λ whole is. sets.small_are whole is.fragment ∙ small_to sizes whole is) next
 
@@ -38,9 +38,9 @@ or_none false b is = (refl, is)
 
 -- one leaf has another size
 module _ (leaf : Leaf) (was now : Option ℕ) (old new : Sizes) (r : IsResized leaf was now old new) (large small large_then : List Leaf) (sets : AreSets old large small)
-    (rise : Rise large_then) (each : (q : Leaf) → is_in q large_then ≡ cond (leaf_is leaf q) (is_large leaf now) (is_in q large)) where
-  large_so : (q : Leaf) → is_in q large_then ≡ is_large q (new q)
-  large_so = large_now leaf was now old new r (λ q. is_in q large) (λ q. is_in q large_then) sets.large_are each
+    (rise : Rise large_then) (each : (q : Leaf) → is_leaf_in q large_then ≡ cond (leaf_is leaf q) (is_large leaf now) (is_leaf_in q large)) where
+  large_so : (q : Leaf) → is_leaf_in q large_then ≡ is_large q (new q)
+  large_so = large_now leaf was now old new r (λ q. is_leaf_in q large) (λ q. is_leaf_in q large_then) sets.large_are each
 
   pub sets_kept : (is_few was || is_few now) ≡ false → AreSets new large_then small
   sets_kept none =
@@ -54,8 +54,8 @@ module _ (leaf : Leaf) (was now : Option ℕ) (old new : Sizes) (r : IsResized l
       }
 
   pub sets_now : (small_then : List Leaf) → Rise small_then
-      → ((q : Leaf) → IsFragment q.1 → (is_in q small_then ≡ are_few new q) ⊎ ((is_in q small_then ≡ is_in q small) × ((i : ℕ) → i < 8 → child q i ≢ leaf)))
-      → ((q : Leaf) → is_in q small_then ≡ true → (is_in q small ≡ true) ⊎ IsFragment q.1) → AreSets new large_then small_then
+      → ((q : Leaf) → IsFragment q.1 → (is_leaf_in q small_then ≡ are_few new q) ⊎ ((is_leaf_in q small_then ≡ is_leaf_in q small) × ((i : ℕ) → i < 8 → child q i ≢ leaf)))
+      → ((q : Leaf) → is_leaf_in q small_then ≡ true → (is_leaf_in q small ≡ true) ⊎ IsFragment q.1) → AreSets new large_then small_then
   sets_now small_then rise_small each_small fragments = record {
     large_rise = rise;
     small_rise = rise_small;
@@ -64,11 +64,11 @@ module _ (leaf : Leaf) (was now : Option ℕ) (old new : Sizes) (r : IsResized l
     fragments = λ q is. of q (fragments q is);
   }
     where
-      go : (q : Leaf) → IsFragment q.1 → (is_in q small_then ≡ are_few new q) ⊎ ((is_in q small_then ≡ is_in q small) × ((i : ℕ) → i < 8 → child q i ≢ leaf)) → is_in q small_then ≡ are_few new q
+      go : (q : Leaf) → IsFragment q.1 → (is_leaf_in q small_then ≡ are_few new q) ⊎ ((is_leaf_in q small_then ≡ is_leaf_in q small) × ((i : ℕ) → i < 8 → child q i ≢ leaf)) → is_leaf_in q small_then ≡ are_few new q
       go q fragment (inl is) = is
       go q fragment (inr (same, apart)) = same ∙ sets.small_are q fragment ∙ sym (beside leaf was now old new r q apart)
 
-      of : (q : Leaf) → (is_in q small ≡ true) ⊎ IsFragment q.1 → IsFragment q.1
+      of : (q : Leaf) → (is_leaf_in q small ≡ true) ⊎ IsFragment q.1 → IsFragment q.1
       of q (inl is) = sets.fragments q is
       of q (inr is) = is
 
@@ -190,7 +190,7 @@ resized_held leaf place places c sets room none = record {
 -- ---- what the calls of a cache need
 
 -- a fragment that shows what it showed
-pub same_size : (place : Place) (f : Cached) → shown f ≡ shown place.frag → size_in (fragment_in (Some (record { frag = f; kept = place.kept }))) ≡ size_in (fragment_in (Some place))
+pub same_size : (place : Place) (f : Cached) → shown_names f ≡ shown_names place.frag → size_in (fragment_in (Some (record { frag = f; kept = place.kept }))) ≡ size_in (fragment_in (Some place))
 same_size place f same = go place.kept
   where
     go : (b : Bool) → size_in (cond b None (Some f)) ≡ size_in (cond b None (Some place.frag))

@@ -1,18 +1,18 @@
 -- A commit, in its two changes of the fragment.
-use Rattle.dentry_cache.proofs.Common.{Cached, HasCached, Held, None, Option, Some, refl, sym, ◌≤◌, IsChanged, IsCommitted, IsSettled, IsWritten, Job, Leaf, Marks, ap, cached, next_version, shown, subst, unsettled, ℕ, ◌∙◌, ◌≡◌}
+use Rattle.dentry_cache.proofs.Common.{Cached, HasCached, Held, None, Option, Some, refl, sym, ◌≤◌, IsChanged, IsCommitted, IsCleanedOf, IsWritten, Job, Leaf, Marks, ap, cached, next_version, shown_names, subst, unsettled, ℕ, ◌∙◌, ◌≡◌}
 use Rattle.dentry_cache.proofs.EditLaws.{cached_written, changed_so, changed_written}
 use Rattle.std.specs.FinMap as map
 
 abbrev pub OnlyPlaces : Cached → Cached → Type 0
 OnlyPlaces f now = now ≡ record { base = f.base; generation = f.generation; clean = f.clean; dirty = f.dirty; room = f.room; places = now.places }
 
-settled_of : (names : Marks) (version : ℕ) (f m now : Cached) → OnlyPlaces f m → IsSettled names version m now → IsSettled names version f now
+settled_of : (names : Marks) (version : ℕ) (f m now : Cached) → OnlyPlaces f m → IsCleanedOf names version m now → IsCleanedOf names version f now
 settled_of names version f m now same s =
     record {
       based = s.based;
       generation = s.generation ∙ ap (λ (c : Cached). c.generation) same;
       dirty = s.dirty ∙ ap (λ (c : Cached). unsettled c.dirty names) same;
-      shown = s.shown ∙ ap (λ (c : Cached). shown c) same;
+      shown_names = s.shown ∙ ap (λ (c : Cached). shown_names c) same;
     }
 
 -- a fragment that was brought to the front, and got room for names that become clean
@@ -26,11 +26,11 @@ pub readied_as : (j k : Job) (old used mid : Held) → j ≡ k → IsChanged (ca
 readied_as j k old used mid same touch first = subst (λ (x : Job). IsChanged (cached old.entries (x.ino, x.frag)) OnlyPlaces (x.ino, x.frag) old mid) same (readied (j.ino, j.frag) old used mid touch first)
 
 pub committed : (j k : Job) (old used mid new : Held) (names : Marks) (version : ℕ) → j ≡ k → names ≡ j.snapshot.names → version ≡ next_version j.snapshot.base → IsChanged (cached old.entries (j.ino, j.frag)) (λ (f now : Cached). now ≡ f) (j.ino, j.frag) old used
-    → IsWritten (cached used.entries (j.ino, j.frag)) OnlyPlaces (j.ino, j.frag) used mid → IsWritten (cached mid.entries (j.ino, j.frag)) (IsSettled names version) (j.ino, j.frag) mid new → IsChanged (cached old.entries (k.ino, k.frag)) (IsCommitted k.snapshot) (k.ino, k.frag) old new
+    → IsWritten (cached used.entries (j.ino, j.frag)) OnlyPlaces (j.ino, j.frag) used mid → IsWritten (cached mid.entries (j.ino, j.frag)) (IsCleanedOf names version) (j.ino, j.frag) mid new → IsChanged (cached old.entries (k.ino, k.frag)) (IsCommitted k.snapshot) (k.ino, k.frag) old new
 committed j k old used mid new names version same are is touch first then =
     subst (λ (x : Job). IsChanged (cached old.entries (x.ino, x.frag)) (IsCommitted x.snapshot) (x.ino, x.frag) old new) same
-    (changed_so (IsSettled names version) (IsCommitted j.snapshot) (j.ino, j.frag) old new (cached old.entries (j.ino, j.frag)) (λ f now s. subst (λ (n : Marks). IsSettled n (next_version j.snapshot.base) f now) are (subst (λ (v : ℕ). IsSettled names v f now) is s))
-    (changed_written OnlyPlaces (IsSettled names version) (IsSettled names version) (j.ino, j.frag) old mid new (cached old.entries (j.ino, j.frag)) (settled_of names version) (readied (j.ino, j.frag) old used mid touch first) then))
+    (changed_so (IsCleanedOf names version) (IsCommitted j.snapshot) (j.ino, j.frag) old new (cached old.entries (j.ino, j.frag)) (λ f now s. subst (λ (n : Marks). IsCleanedOf n (next_version j.snapshot.base) f now) are (subst (λ (v : ℕ). IsCleanedOf names v f now) is s))
+    (changed_written OnlyPlaces (IsCleanedOf names version) (IsCleanedOf names version) (j.ino, j.frag) old mid new (cached old.entries (j.ino, j.frag)) (settled_of names version) (readied (j.ino, j.frag) old used mid touch first) then))
 
 -- where as many names fit among the fetched ones as were dirty, all that are dirty do
 pub dirty_fit : (leaf : Leaf) (old new : Held) (dirty : ℕ) → HasCached (cached old.entries leaf) (λ (f : Cached). dirty ≡ map.len f.dirty) → IsWritten (cached old.entries leaf) OnlyPlaces leaf old new

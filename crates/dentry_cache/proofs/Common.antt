@@ -1,29 +1,29 @@
 -- Names of other crates, and of this one's definitions, as the proofs of this crate take them.
 pub use Rattle.cached_frag.proofs.MovedLaws.{dirty_step, entries_step, none_popped, popped_len, popped_there, shown_step}
 pub use Rattle.cached_frag.proofs.ShownLaws.{nothing_shown}
-pub use Rattle.cached_frag.specs.Cached.{AreEntries, Cached, imported, is_clean_over, marked, shown, shown_over, unsettled}
+pub use Rattle.cached_frag.specs.Cached.{AreEntries, Cached, imported, is_clean_over, marked, shown_names, shown_over, unsettled}
 pub use Rattle.cached_frag.specs.Marks.{Marks}
 pub use Rattle.cached_frag.specs.Moving.{TakesIn, marked_as, shown_as}
-pub use Rattle.cached_frag.specs.Rows.{Row, rows_left}
+pub use Rattle.cached_frag.specs.Rows.{NamedInode, rows_left}
 pub use Rattle.cached_frag.specs.Snap.{Snap, counts_of, next_version}
 pub use Rattle.cached_frag.specs.declared.bases.Base.{Base}
 pub use Rattle.cached_frag.specs.declared.bases.Base.TheVariants.{Fresh, Stored}
 pub use Rattle.cached_frag.specs.declared.jobs.Job.{Job}
 pub use Rattle.cached_frag.specs.declared.marks.Mark.{Mark}
-pub use Rattle.dentry_cache.specs.Cache.{HasCached, HasRoom, Held, IsChanged, IsThere, IsUsed, IsWritten, Leaf, NoneGoes, Places, cached, fragment_in, held, is_kept, leaf_cmp, leaf_is, may_go, shows_in, used_as}
+pub use Rattle.dentry_cache.specs.Cache.{HasCached, HasRoom, Held, IsChanged, IsThere, IsTouched, IsWritten, Leaf, NoneGoes, Places, cached, fragment_in, held, is_kept, leaf_cmp, leaf_is, may_go, shows_in, used_as}
 pub use Rattle.dentry_cache.specs.CacheCalls.{Edits, IsAbsent, IsEdited, IsRefusedAt, IsRewritten, KeepsAt, MakesRoomAt, MayNotKeepAt, Rewrites, unclean_in}
 pub use Rattle.dentry_cache.specs.CacheMap.{AreAtOneRank, AreCaches, At, CacheMap, IsFreeFor, at_rank, cache_map, found, frag_at, given_up, has_place, held_of, here, less, no_cache, no_caches, order, orders, removed, rewritten, roomy, unclean, used_at, with_frag}
-pub use Rattle.dentry_cache.specs.CacheSplits.{AreAbsent, AreFillable, AreKept, IsButPlaces, IsChildAt, IsFamilyAt, IsKeptFor, IsReadyToSplit, KeepsChildren, ReadiesAt, SplitsAt, with_parts, with_unclean, without_children}
+pub use Rattle.dentry_cache.specs.CacheSplits.{AreAbsent, AreFillable, HaveKeptPlaces, IsButPlaces, IsChildAt, IsFamilyAt, IsKeptFor, IsReadyToSplit, KeepsChildren, ReadiesAt, SplitsAt, with_parts, with_unclean, without_children}
 pub use Rattle.dentry_cache.specs.Came.{Came, NoneEnds}
-pub use Rattle.dentry_cache.specs.CandidateSets.{AreCandidates, AreSets, AreTold, HasRoomFor, IsBelow, IsGap, IsPlaceBehind, IsResized, IsSpot, MayResize, Rise, StandsAt, are_few, both, is_few, is_in, is_large, sizes_of, together}
-pub use Rattle.dentry_cache.specs.Candidates.{IsBehind, IsLargeIn, IsNext, IsSmallIn, Sizes, child, entries_in, size_in}
-pub use Rattle.dentry_cache.specs.Commits.{IsCommitted, IsSettled, MayNotBegin, Takes}
-pub use Rattle.dentry_cache.specs.Divided.{AreChildren, AreNumbered, AreReady, IsChild, IsReady, bare, names_in}
+pub use Rattle.dentry_cache.specs.CandidateSets.{AreCandidates, AreSets, AreTold, HasRoomFor, IsBelow, IsLeafGap, IsPlaceBehind, IsResized, IsLeafSpot, MayResize, Rise, StandsAt, are_few, both, is_few, is_leaf_in, is_large, sizes_of, together}
+pub use Rattle.dentry_cache.specs.Candidates.{IsBehind, IsLargeIn, IsNextLeaf, IsSmallIn, Sizes, child, entries_of_children, size_in}
+pub use Rattle.dentry_cache.specs.Commits.{IsCommitted, IsCleanedOf, MayNotBegin, TakesSnap}
+pub use Rattle.dentry_cache.specs.Divided.{AreChildren, AreNumbered, AreReady, IsCachedChild, IsReadyPart, bare, names_in}
 pub use Rattle.dentry_cache.specs.Fetches.{IsRefusedIn}
-pub use Rattle.dentry_cache.specs.Handing.{HandsOver, HaveNoPlace, and_kept, kept_all, moved, moved_all, moved_as, without_all}
+pub use Rattle.dentry_cache.specs.Handing.{HandsFragmentsOver, HaveNoPlace, and_kept, kept_all, moved, moved_all, moved_as, without_all}
 pub use Rattle.dentry_cache.specs.Loading.{object_of}
 pub use Rattle.dentry_cache.specs.Pairs.{EndsPairs, IsEndOf, added, are_good, holds, is_good, pairs_left}
-pub use Rattle.dentry_cache.specs.Parting.{AreApart, Each, EachThen, Grows, IsBare, Puts, is_place}
+pub use Rattle.dentry_cache.specs.Parting.{AreKeptApart, Each, EachThen, Grows, IsBare, Puts, is_place}
 pub use Rattle.dentry_cache.specs.Places.{IsCache}
 pub use Rattle.dentry_cache.specs.PlacesByUse.{in_place}
 pub use Rattle.dentry_cache.specs.Reads.{Reads}
@@ -38,9 +38,9 @@ pub use Rattle.dentry_cache.specs.declared.loading.PageEnd.TheVariants.{Last, Mo
 pub use Rattle.dentry_cache.specs.declared.parts.Part.{Part}
 pub use Rattle.dirfrag_codec.proofs.ByteKeys.{get_beside, get_put, one_map, same_or_apart}
 pub use Rattle.dirfrag_codec.proofs.ValueLaws.{one_key, one_reading, reads_key}
-pub use Rattle.dirfrag_codec.specs.FragmentObject.{Names, SpellsKey, with_entry}
+pub use Rattle.dirfrag_codec.specs.FragmentObject.{Names, SpellsKey, with_pair}
 pub use Rattle.dirfrag_codec.specs.Grammar.{Decodes}
-pub use Rattle.dirfrag_codec.specs.Values.{entry_of, name_of}
+pub use Rattle.dirfrag_codec.specs.Values.{inode_of_record, name_of_key}
 pub use Rattle.lru.specs.LruCache.{lru_cache, promoted}
 pub use Rattle.mds_types.proofs.Fragments.{span-split}
 pub use Rattle.mds_types.proofs.LeafLaws.{flips, leaf-exact, leaf-total, leaf_equivalence, leaf_itself, leaf_or_apart, one_leaf, same_leaf}

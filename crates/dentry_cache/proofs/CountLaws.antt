@@ -4,7 +4,7 @@ use Rattle.std.proofs.lemmas.Bool.Decides.{nat_tests}
 use Rattle.std.specs.List.{AllByRecursion, IsDistinct}
 use Rattle.std.proofs.lemmas.Map.Keys.{IsDistinct-head, IsDistinct-tail}
 use Rattle.cached_frag.specs.Cached.{Cached, is_clean}
-use Rattle.dentry_cache.specs.Cache.{Leaf, leaf_is, stays}
+use Rattle.dentry_cache.specs.Cache.{Leaf, leaf_is, is_to_stay}
 use Rattle.dentry_cache.specs.CacheCalls.{kept_at, unclean_at, unclean_in}
 use Rattle.dentry_cache.specs.CacheMap.{AreCaches, CacheMap, clean_in, given_up, goes, here, last_by, or_this, order, roomy, victim}
 use Rattle.dentry_cache.proofs.LeafLaws.{one_leaf}
@@ -47,10 +47,10 @@ pub none_passes : (p : Leaf → Bool) (xs : List Leaf) → AllByRecursion (λ (x
 none_passes p [] none = refl
 none_passes p (x ∷ xs) none = ap (λ (b : Bool). length (cond b (x ∷ filter p xs) (filter p xs))) none.0 ∙ none_passes p xs none.1
 
-pub stays_once : (stay : Option Leaf) (xs : List Leaf) → IsDistinct leaf_is xs → length (filter (stays stay) xs) ≤ staying stay
-stays_once None xs distinct = let none : length (filter (stays None) xs) ≡ 0 = none_passes (stays None) xs (never xs) in omega (arith, none)
+pub stays_once : (stay : Option Leaf) (xs : List Leaf) → IsDistinct leaf_is xs → length (filter (is_to_stay stay) xs) ≤ staying stay
+stays_once None xs distinct = let none : length (filter (is_to_stay None) xs) ≡ 0 = none_passes (is_to_stay None) xs (never xs) in omega (arith, none)
   where
-    never : (xs : List Leaf) → AllByRecursion (λ (x : Leaf). stays None x ≡ false) xs
+    never : (xs : List Leaf) → AllByRecursion (λ (x : Leaf). is_to_stay None x ≡ false) xs
     never [] = tt
     never (x ∷ xs) = (refl, never xs)
 stays_once (Some one) [] distinct = omega arith
@@ -60,9 +60,9 @@ stays_once (Some one) (x ∷ xs) distinct = go (leaf_is one x) refl (stays_once 
     others [] apart same = tt
     others (y ∷ ys) apart same = (ap (λ (l : Leaf). leaf_is l y) (one_leaf one x same) ∙ apart.0, others ys apart.1 same)
 
-    go : (b : Bool) → leaf_is one x ≡ b → length (filter (stays (Some one)) xs) ≤ 1 → length (cond b (x ∷ filter (stays (Some one)) xs) (filter (stays (Some one)) xs)) ≤ 1
+    go : (b : Bool) → leaf_is one x ≡ b → length (filter (is_to_stay (Some one)) xs) ≤ 1 → length (cond b (x ∷ filter (is_to_stay (Some one)) xs) (filter (is_to_stay (Some one)) xs)) ≤ 1
     go true same rest =
-        let none : length (filter (stays (Some one)) xs) ≡ 0 = none_passes (stays (Some one)) xs (others xs (IsDistinct-head leaf_is x xs distinct) same) in
+        let none : length (filter (is_to_stay (Some one)) xs) ≡ 0 = none_passes (is_to_stay (Some one)) xs (others xs (IsDistinct-head leaf_is x xs distinct) same) in
         omega (arith, none)
     go false apart rest = rest
 
@@ -70,8 +70,8 @@ stays_once (Some one) (x ∷ xs) distinct = go (leaf_is one x) refl (stays_once 
 pub full_where : (c : CacheMap) (r : ℕ) (stay : Option Leaf) → IsDistinct leaf_is (order c r) → roomy c r stay ≡ None → c.cap ≤ length (unclean_at c r) + length (kept_at c r) + staying stay
 full_where c r stay distinct full = go (nat_lt (length (order c r)) c.cap) refl (victim c r stay) refl full
   where
-    each : (leaf : Leaf) → goes c r stay leaf ≡ false → (unclean_in (here c r leaf) ≡ true) ⊎ (not (is_some (here c r leaf)) ≡ true) ⊎ (stays stay leaf ≡ true)
-    each leaf is = on (here c r leaf) (stays stay leaf) is
+    each : (leaf : Leaf) → goes c r stay leaf ≡ false → (unclean_in (here c r leaf) ≡ true) ⊎ (not (is_some (here c r leaf)) ≡ true) ⊎ (is_to_stay stay leaf ≡ true)
+    each leaf is = on (here c r leaf) (is_to_stay stay leaf) is
       where
         clean : (f : Cached) (b s : Bool) → is_clean f ≡ b → (b && not s) ≡ false → (not (is_clean f) ≡ true) ⊎ (false ≡ true) ⊎ (s ≡ true)
         clean f true true seen is = inr (inr refl)
@@ -82,7 +82,7 @@ full_where c r stay distinct full = go (nat_lt (length (order c r)) c.cap) refl 
         on (Some f) s is = clean f (is_clean f) s refl is
         on None s is = inr (inl refl)
 
-    all : (xs : List Leaf) → AllByRecursion (λ (x : Leaf). goes c r stay x ≡ false) xs → AllByRecursion (λ (x : Leaf). (unclean_in (here c r x) ≡ true) ⊎ (not (is_some (here c r x)) ≡ true) ⊎ (stays stay x ≡ true)) xs
+    all : (xs : List Leaf) → AllByRecursion (λ (x : Leaf). goes c r stay x ≡ false) xs → AllByRecursion (λ (x : Leaf). (unclean_in (here c r x) ≡ true) ⊎ (not (is_some (here c r x)) ≡ true) ⊎ (is_to_stay stay x ≡ true)) xs
     all [] none = tt
     all (x ∷ xs) none = (each x none.0, all xs none.1)
 
@@ -91,7 +91,7 @@ full_where c r stay distinct full = go (nat_lt (length (order c r)) c.cap) refl 
     go false lt (Some v) seen is = let clash : Some (given_up c r v) ≡ None = is in absurd cc
     go false lt None seen is =
         let taken : c.cap ≤ length (order c r) = grind (arith, nat_tests, lt) in
-        let counted = three (λ (leaf : Leaf). unclean_in (here c r leaf)) (λ (leaf : Leaf). not (is_some (here c r leaf))) (stays stay) (order c r) (all (order c r) (none_last (goes c r stay) (order c r) seen)) in
+        let counted = three (λ (leaf : Leaf). unclean_in (here c r leaf)) (λ (leaf : Leaf). not (is_some (here c r leaf))) (is_to_stay stay) (order c r) (all (order c r) (none_last (goes c r stay) (order c r) seen)) in
         let once = stays_once stay (order c r) distinct in
         omega (arith, taken, counted, once)
 

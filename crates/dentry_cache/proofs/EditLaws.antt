@@ -1,5 +1,5 @@
 -- A fragment that is changed in its place.
-use Rattle.dentry_cache.proofs.Common.{Bool, Cached, HasCached, HasRoom, Held, IsChanged, IsThere, IsUsed, IsWritten, Leaf, None, Option, Place, Some, ap, cached, cond, false, fragment_in, held, is_some, leaf_is, lookup, lru_cache, refl, remove_entry, set_value, subst, sym, true, used_as, ◌<◌, ◌∙◌, ◌∷◌, ◌≡◌}
+use Rattle.dentry_cache.proofs.Common.{Bool, Cached, HasCached, HasRoom, Held, IsChanged, IsThere, IsTouched, IsWritten, Leaf, None, Option, Place, Some, ap, cached, cond, false, fragment_in, held, is_some, leaf_is, lookup, lru_cache, refl, remove_entry, set_value, subst, sym, true, used_as, ◌<◌, ◌∙◌, ◌∷◌, ◌≡◌}
 use Rattle.dentry_cache.proofs.LeafLaws.{leaf_itself}
 use Rattle.dentry_cache.proofs.OneCache.{cached_set}
 
@@ -12,12 +12,12 @@ held_as (Some place) f is = go place.kept refl is
     go true kept is = cc
     go false kept is = let frag : place.frag ≡ f = cc in λ i. Some (record { frag = frag i; kept = kept i })
 
-module _ (leaf : Leaf) (old touched mid : Held) (there : Bool) (touch : IsUsed (lookup (leaf_is leaf) old.entries) leaf old touched there) (same : mid ≡ touched) where
-  used : IsUsed (lookup (leaf_is leaf) old.entries) leaf old mid there
-  used = subst (λ (m : Held). IsUsed (lookup (leaf_is leaf) old.entries) leaf old m there) (sym same) touch
+module _ (leaf : Leaf) (old touched mid : Held) (there : Bool) (touch : IsTouched (lookup (leaf_is leaf) old.entries) leaf old touched there) (same : mid ≡ touched) where
+  used : IsTouched (lookup (leaf_is leaf) old.entries) leaf old mid there
+  used = subst (λ (m : Held). IsTouched (lookup (leaf_is leaf) old.entries) leaf old m there) (sym same) touch
 
   pub mid_is : (f : Cached) → cached old.entries leaf ≡ Some f → mid ≡ used_as leaf (held f) old
-  mid_is f is = (subst (λ (o : Option Place). IsUsed o leaf old mid there) (held_as (lookup (leaf_is leaf) old.entries) f is) used).1
+  mid_is f is = (subst (λ (o : Option Place). IsTouched o leaf old mid there) (held_as (lookup (leaf_is leaf) old.entries) f is) used).1
 
   found_there : (f : Cached) → cached old.entries leaf ≡ Some f → lookup (leaf_is leaf) mid.entries ≡ Some (held f)
   found_there f is = ap (λ (h : Held). lookup (leaf_is leaf) h.entries) (mid_is f is) ∙ ap (λ (b : Bool). cond b (Some (held f)) (lookup (leaf_is leaf) (remove_entry (leaf_is leaf) old.entries))) (leaf_itself leaf)
@@ -78,7 +78,7 @@ there_with_room (Some f) room = tt
 there_with_room None room = room
 
 -- a fragment that was only read
-pub only_used : (leaf : Leaf) (old new : Held) (there : Bool) → IsUsed (lookup (leaf_is leaf) old.entries) leaf old new there → IsThere (cached old.entries leaf) → IsChanged (cached old.entries leaf) (λ (f now : Cached). now ≡ f) leaf old new
+pub only_used : (leaf : Leaf) (old new : Held) (there : Bool) → IsTouched (lookup (leaf_is leaf) old.entries) leaf old new there → IsThere (cached old.entries leaf) → IsChanged (cached old.entries leaf) (λ (f now : Cached). now ≡ f) leaf old new
 only_used leaf old new there touch h = go (cached old.entries leaf) refl h
   where
     go : (o : Option Cached) → cached old.entries leaf ≡ o → IsThere o → IsChanged o (λ (f now : Cached). now ≡ f) leaf old new

@@ -6,7 +6,7 @@ use Rattle.std.specs.List.{list_any}
 use Rattle.std.proofs.lemmas.List.{set-get_or}
 use Rattle.sorted_map.proofs.NatKeys.{is_same}
 use Rattle.cached_frag.specs.Cached.{Cached}
-use Rattle.dentry_cache.specs.CacheCalls.{IsWhole}
+use Rattle.dentry_cache.specs.CacheCalls.{HasNoKeptPlace}
 use Rattle.dentry_cache.specs.CacheMap.{AreCaches, At, CacheMap, at_rank, given_up, has_place, here, less, order, removed}
 use Rattle.dentry_cache.specs.Ended.{ended, ended_at}
 use Rattle.dentry_cache.proofs.SplitShows.{below_or_it}
@@ -55,7 +55,7 @@ less_absent leaf (x ∷ xs) none = go (less_absent leaf xs) (leaf_is leaf x) non
     go rest false later = ap (λ (ys : List Leaf). x ∷ ys) (rest later)
 
 -- a rank that has nothing of it gives nothing up
-pub given_up_none : (c : CacheMap) (leaf : Leaf) (r : ℕ) → IsWhole c r leaf → is_some (here c r leaf) ≡ false → given_up c r leaf ≡ c
+pub given_up_none : (c : CacheMap) (leaf : Leaf) (r : ℕ) → HasNoKeptPlace c r leaf → is_some (here c r leaf) ≡ false → given_up c r leaf ≡ c
 given_up_none c leaf r whole none =
     let empty = gone (here c r leaf) none in
     ap (λ (o : Option Cached). record { held = removed c.held leaf o; used = set c.used r (less leaf (order c r)); cap = c.cap }) empty

@@ -4,8 +4,8 @@ use Rattle.std.specs.FinMap as finmap
 use Rattle.std.specs.FinMap.{get-remove}
 use Rattle.std.proofs.lemmas.Option.{same_Some}
 use Rattle.cached_frag.specs.Cached.{Cached}
-use Rattle.dentry_cache.specs.Cache.{Leaf, leaf_is, stays}
-use Rattle.dentry_cache.specs.CacheMap.{At, CacheMap, at, first, given_up, goes, here, order, removed, roomy, unsaved_at, victim, with_frag}
+use Rattle.dentry_cache.specs.Cache.{Leaf, leaf_is, is_to_stay}
+use Rattle.dentry_cache.specs.CacheMap.{At, CacheMap, lies_by, moved_first, given_up, goes, here, order, removed, roomy, unsaved_at, victim, with_frag}
 use Rattle.dentry_cache.specs.Came.{Came, StaysNamed}
 use Rattle.dentry_cache.specs.Came.Came.{stays as it_stays, uses, has, alters, room, ends}
 use Rattle.dentry_cache.proofs.StepLaws.{cap_roomy, get_with_frag, held_given_up, held_roomy, ranks_given_up, ranks_roomy, ranks_used, ranks_with_frag}
@@ -20,7 +20,7 @@ pub roomy_left : (c new : CacheMap) (r : ℕ) (stay : Option Leaf) (q : Leaf) �
 roomy_left c new r stay q is = go (nat_lt (length (order c r)) c.cap) (victim c r stay) refl is
   where
     on : (v : Leaf) → victim c r stay ≡ Some v → (b : Bool) → leaf_is q v ≡ b → IsLeft (finmap.get c.held q) (cond b None (finmap.get c.held q))
-    on v seen true same = inr (refl, ap (λ (l : Leaf). unsaved_at (finmap.get c.held l)) (one_leaf q v same) ∙ clean_there r (finmap.get c.held v) (not (stays stay v)) (last_passes (goes c r stay) (order c r) v seen))
+    on v seen true same = inr (refl, ap (λ (l : Leaf). unsaved_at (finmap.get c.held l)) (one_leaf q v same) ∙ clean_there r (finmap.get c.held v) (not (is_to_stay stay v)) (last_passes (goes c r stay) (order c r) v seen))
     on v seen false apart = inl refl
 
     by : (v : Leaf) → victim c r stay ≡ Some v → (o : Option Cached) → IsLeft (finmap.get c.held q) (finmap.get (removed c.held v o) q)
@@ -58,8 +58,8 @@ module _ (Uses Ends : ℕ → Leaf → Type 0) (old : CacheMap) where
       → (finmap.get old.held q ≡ Some a) ⊎ Uses a.rank q
   given mid r leaf f named q a rest is = go (leaf_is q leaf) refl (sym (get_with_frag mid r leaf f q) ∙ is)
     where
-      go : (b : Bool) → leaf_is q leaf ≡ b → cond b (Some (at r f)) (finmap.get mid.held q) ≡ Some a → (finmap.get old.held q ≡ Some a) ⊎ Uses a.rank q
-      go true one is = inr (subst (λ (k : ℕ). Uses k q) (ap (λ (x : At). x.rank) (same_Some (at r f) a is)) (subst (Uses r) (sym (one_leaf q leaf one)) named))
+      go : (b : Bool) → leaf_is q leaf ≡ b → cond b (Some (lies_by r f)) (finmap.get mid.held q) ≡ Some a → (finmap.get old.held q ≡ Some a) ⊎ Uses a.rank q
+      go true one is = inr (subst (λ (k : ℕ). Uses k q) (ap (λ (x : At). x.rank) (same_Some (lies_by r f) a is)) (subst (Uses r) (sym (one_leaf q leaf one)) named))
       go false one is = rest is
 
   -- each fragment was there, as it is, or its leaf is used at its rank
@@ -73,12 +73,12 @@ module _ (Uses Ends : ℕ → Leaf → Type 0) (old : CacheMap) where
 
 -- steps after others
 pub came_then : (Uses Ends : ℕ → Leaf → Type 0) (old mid new : CacheMap) → Came Uses Ends old mid → Came Uses Ends mid new → Came Uses Ends old new
-came_then Uses Ends old mid _ first it_stays = first
-came_then Uses Ends old mid _ first (uses next r leaf before named) = uses next r leaf (came_then Uses Ends old mid next first before) named
-came_then Uses Ends old mid _ first (has next r leaf f before named) = has next r leaf f (came_then Uses Ends old mid next first before) named
-came_then Uses Ends old mid _ first (alters next r leaf f now before named seen) = alters next r leaf f now (came_then Uses Ends old mid next first before) named seen
-came_then Uses Ends old mid _ first (room next new r leaf stay before named none kept is) = room next new r leaf stay (came_then Uses Ends old mid next first before) named none kept is
-came_then Uses Ends old mid _ first (ends next r leaf before named) = ends next r leaf (came_then Uses Ends old mid next first before) named
+came_then Uses Ends old mid _ moved_first it_stays = moved_first
+came_then Uses Ends old mid _ moved_first (uses next r leaf before named) = uses next r leaf (came_then Uses Ends old mid next moved_first before) named
+came_then Uses Ends old mid _ moved_first (has next r leaf f before named) = has next r leaf f (came_then Uses Ends old mid next moved_first before) named
+came_then Uses Ends old mid _ moved_first (alters next r leaf f now before named seen) = alters next r leaf f now (came_then Uses Ends old mid next moved_first before) named seen
+came_then Uses Ends old mid _ moved_first (room next new r leaf stay before named none kept is) = room next new r leaf stay (came_then Uses Ends old mid next moved_first before) named none kept is
+came_then Uses Ends old mid _ moved_first (ends next r leaf before named) = ends next r leaf (came_then Uses Ends old mid next moved_first before) named
 
 pub staying_named : (Uses More : ℕ → Leaf → Type 0) → ((r : ℕ) (leaf : Leaf) → Uses r leaf → More r leaf) → (stay : Option Leaf) → StaysNamed Uses stay → StaysNamed More stay
 staying_named Uses More so None named = tt

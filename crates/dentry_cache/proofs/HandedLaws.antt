@@ -8,8 +8,8 @@ use Rattle.sorted_map.proofs.NatKeys.{is_apart, is_same}
 use Rattle.cached_frag.specs.Cached.{Cached, imported, is_clean}
 use Rattle.dentry_cache.specs.Cache.{IsThere, Leaf, Unsaved, leaf_is, unsaved_of}
 use Rattle.dentry_cache.specs.CacheCalls.{unclean_in}
-use Rattle.dentry_cache.specs.CacheMap.{AreCaches, At, CacheMap, at, at_rank, clean_in, given_up, has_place, here, roomy, unclean, unsaved_at, used_at, with_frag}
-use Rattle.dentry_cache.specs.Handing.{AreCleanAt, AreHanded, AreUncleanAt, HandsOver, WantsPlace, handed, kept_all, moved, moved_all, without_all}
+use Rattle.dentry_cache.specs.CacheMap.{AreCaches, At, CacheMap, lies_by, at_rank, clean_in, given_up, has_place, here, roomy, unclean, unsaved_at, used_at, with_frag}
+use Rattle.dentry_cache.specs.Handing.{AreCleanAt, AreHanded, AreUncleanAt, HandsFragmentsOver, WantsPlace, handed, kept_all, moved, moved_all, without_all}
 use Rattle.dentry_cache.proofs.KeepingLaws.{all_from, all_of, by_keeping, kept_from, kept_held, kept_unclean, room_held}
 use Rattle.dentry_cache.proofs.LacksLaws.{IsPlaced, caches_placed, placed_by_end, placed_by_frag, placed_by_use}
 use Rattle.dentry_cache.proofs.LeafLaws.{one_leaf}
@@ -34,7 +34,7 @@ pub record IsFrom (o : Option At) (a : At) : Type 0 where
 
 -- ---- where each is
 
-module _ (from to : ℕ) (apart : from ≢ to) (leaves clean : List Leaf) (old new : CacheMap) (cached : AreUncleanAt old from leaves) (h : HandsOver from to leaves clean old new) where
+module _ (from to : ℕ) (apart : from ≢ to) (leaves clean : List Leaf) (old new : CacheMap) (cached : AreUncleanAt old from leaves) (h : HandsFragmentsOver from to leaves clean old new) where
   abbrev mid : CacheMap
   mid = h.0
 
@@ -51,14 +51,14 @@ module _ (from to : ℕ) (apart : from ≢ to) (leaves clean : List Leaf) (old n
   either false o same = refl
 
   -- a leaf that was handed over is at the other rank
-  pub handed_held : (q : Leaf) → list_any (leaf_is q) leaves ≡ true → (f : Cached) → here old from q ≡ Some f → finmap.get new.held q ≡ Some (at to (imported f))
+  pub handed_held : (q : Leaf) → list_any (leaf_is q) leaves ≡ true → (f : Cached) → here old from q ≡ Some f → finmap.get new.held q ≡ Some (lies_by to (imported f))
   handed_held q among f seen =
       let none = none_beside old from to q apart (all_of (λ (l : Leaf). unclean_in (here old from l) ≡ true) q leaves cached among) in
-      let there : finmap.get mid.held q ≡ Some (at from f) = kept_held old to leaves mid h.1 q none ∙ here_is from (finmap.get old.held q) f seen in
-      let moves : went q ≡ Some (at to (imported f)) =
-      ap (λ (b : Bool). cond b (sent from to (finmap.get mid.held q)) (finmap.get mid.held q)) among ∙ ap (sent from to) there ∙ ap (λ (b : Bool). cond b (Some (at to (imported f))) (Some (at from f))) (is_same from from refl) in
+      let there : finmap.get mid.held q ≡ Some (lies_by from f) = kept_held old to leaves mid h.1 q none ∙ here_is from (finmap.get old.held q) f seen in
+      let moves : went q ≡ Some (lies_by to (imported f)) =
+      ap (λ (b : Bool). cond b (sent from to (finmap.get mid.held q)) (finmap.get mid.held q)) among ∙ ap (sent from to) there ∙ ap (λ (b : Bool). cond b (Some (lies_by to (imported f))) (Some (lies_by from f))) (is_same from from refl) in
       held_is q ∙ ap (λ (o : Option At). cond (list_any (leaf_is q) clean) (left_by from o) o) moves
-      ∙ either (list_any (leaf_is q) clean) (Some (at to (imported f))) (ap (λ (b : Bool). cond b None (Some (at to (imported f)))) (is_apart to from (λ (e : to ≡ from). apart (sym e))))
+      ∙ either (list_any (leaf_is q) clean) (Some (lies_by to (imported f))) (ap (λ (b : Bool). cond b None (Some (lies_by to (imported f)))) (is_apart to from (λ (e : to ≡ from). apart (sym e))))
 
   -- ---- what isn't clean
 
@@ -84,11 +84,11 @@ module _ (from to : ℕ) (apart : from ≢ to) (leaves clean : List Leaf) (old n
           ap unsaved_at (handed_held q among d.0 d.1) ∙ renewed d.0 ∙ sym (ap (λ (b : Bool). step b (unsaved_at (finmap.get old.held q))) among ∙ ap (λ (o : Option At). step true (unsaved_at o)) (here_is from (finmap.get old.held q) d.0 d.1))
       go false among true out =
           let d = clean_there (here old from q) (all_of (λ (l : Leaf). clean_in (here old from l) ≡ true) q clean gone out) in
-          let was : finmap.get old.held q ≡ Some (at from d.0) = here_is from (finmap.get old.held q) d.0 d.1 in
+          let was : finmap.get old.held q ≡ Some (lies_by from d.0) = here_is from (finmap.get old.held q) d.0 d.1 in
           let none : here old to q ≡ None = ap (at_rank to) was ∙ ap (λ (b : Bool). cond b (Some d.0) None) (is_apart from to apart) in
-          let there : finmap.get mid.held q ≡ Some (at from d.0) = kept_held old to leaves mid h.1 q none ∙ was in
+          let there : finmap.get mid.held q ≡ Some (lies_by from d.0) = kept_held old to leaves mid h.1 q none ∙ was in
           ap unsaved_at (held_is q ∙ ap (λ (b : Bool). cond b (left_by from (went q)) (went q)) out ∙ ap (left_by from) (ap (λ (b : Bool). cond b (sent from to (finmap.get mid.held q)) (finmap.get mid.held q)) among ∙ there)
-          ∙ ap (λ (b : Bool). cond b None (Some (at from d.0))) (is_same from from refl))
+          ∙ ap (λ (b : Bool). cond b None (Some (lies_by from d.0))) (is_same from from refl))
           ∙ sym (ap (λ (b : Bool). step b (unsaved_at (finmap.get old.held q))) among ∙ ap unsaved_at was ∙ clean_none d.0 d.2)
       go false among false out =
           ap unsaved_at (held_is q ∙ ap (λ (b : Bool). cond b (left_by from (went q)) (went q)) out ∙ ap (λ (b : Bool). cond b (sent from to (finmap.get mid.held q)) (finmap.get mid.held q)) among)
@@ -112,7 +112,7 @@ module _ (from to : ℕ) (apart : from ≢ to) (leaves clean : List Leaf) (old n
       go : (b : Bool) → list_any (leaf_is q) leaves ≡ b → ((list_any (leaf_is q) leaves ≡ true) × (a.rank ≡ to)) ⊎ ((list_any (leaf_is q) leaves ≡ false) × (finmap.get old.held q ≡ Some a))
       go true among =
           let d = dirty_there (here old from q) (all_of (λ (l : Leaf). unclean_in (here old from l) ≡ true) q leaves cached among) in
-          inl (among, ap (λ (y : At). y.rank) (sym (same_Some (at to (imported d.0)) a (sym (handed_held q among d.0 d.1) ∙ is))))
+          inl (among, ap (λ (y : At). y.rank) (sym (same_Some (lies_by to (imported d.0)) a (sym (handed_held q among d.0 d.1) ∙ is))))
       go false among =
           inr (among, kept_from old to leaves mid h.1 q a (ap (λ (b : Bool). cond b (sent from to (finmap.get mid.held q)) (finmap.get mid.held q)) (sym among) ∙ left_some (list_any (leaf_is q) clean) (went q) a (sym (held_is q) ∙ is)))
 
@@ -123,7 +123,7 @@ module _ (from to : ℕ) (apart : from ≢ to) (leaves clean : List Leaf) (old n
       go (inr same) = record { was = a; held = same.1; frag = inl refl }
       go (inl gone) =
           let d = dirty_there (here old from q) (all_of (λ (l : Leaf). unclean_in (here old from l) ≡ true) q leaves cached gone.0) in
-          record { was = at from d.0; held = here_is from (finmap.get old.held q) d.0 d.1; frag = inr (ap (λ (y : At). y.frag) (sym (same_Some (at to (imported d.0)) a (sym (handed_held q gone.0 d.0 d.1) ∙ is)))) }
+          record { was = lies_by from d.0; held = here_is from (finmap.get old.held q) d.0 d.1; frag = inr (ap (λ (y : At). y.frag) (sym (same_Some (lies_by to (imported d.0)) a (sym (handed_held q gone.0 d.0 d.1) ∙ is)))) }
 
 -- ---- places in which there is a fragment
 
@@ -207,7 +207,7 @@ module _ (Ex : ℕ → Leaf → Type 0) (n : ℕ) where
 
 -- ---- where leaves were handed over
 
-module _ (from to : ℕ) (apart : from ≢ to) (leaves clean : List Leaf) (old new : CacheMap) (cached : AreUncleanAt old from leaves) (h : HandsOver from to leaves clean old new) (valid : AreCaches old) (there : from < length old.used) (other : to < length old.used)
+module _ (from to : ℕ) (apart : from ≢ to) (leaves clean : List Leaf) (old new : CacheMap) (cached : AreUncleanAt old from leaves) (h : HandsFragmentsOver from to leaves clean old new) (valid : AreCaches old) (there : from < length old.used) (other : to < length old.used)
     (Kept : ℕ → Leaf → Type 0) (whole : IsWholeBut Kept old) where
   abbrev Ex : ℕ → Leaf → Type 0
   Ex r q = Kept r q ⊎ ((r ≡ to) × (list_any (leaf_is q) leaves ≡ true))
@@ -261,8 +261,8 @@ module _ (from to : ℕ) (apart : from ≢ to) (leaves : List Leaf) (old new : C
           let d = dirty_there (here old from q) dirty in
           let none : here old to q ≡ None = none_beside old from to q apart dirty in
           let kept : finmap.get w.2.held q ≡ finmap.get old.held q = kept_held old to ends w.2 w.3 q none in
-          let is : finmap.get w.4.held q ≡ Some (at from d.0) = room_held to q w.2 w.4 w.5 (ap (at_rank to) kept ∙ none) ∙ kept ∙ here_is from (finmap.get old.held q) d.0 d.1 in
-          ap (left_by to) is ∙ ap (λ (b : Bool). cond b None (Some (at from d.0))) (is_apart from to apart) ∙ sym is
+          let is : finmap.get w.4.held q ≡ Some (lies_by from d.0) = room_held to q w.2 w.4 w.5 (ap (at_rank to) kept ∙ none) ∙ kept ∙ here_is from (finmap.get old.held q) d.0 d.1 in
+          ap (left_by to) is ∙ ap (λ (b : Bool). cond b None (Some (lies_by from d.0))) (is_apart from to apart) ∙ sym is
 
   pub wants_unclean : unclean new ≡ unclean old
   wants_unclean = unclean_alike new w.4 (λ q. ap unsaved_at (same_held q)) ∙ unclean_roomy w.2 w.4 to None w.5 ∙ kept_unclean old to ends w.2 w.3

@@ -4,9 +4,9 @@ use Rattle.std.specs.List.{AllByRecursion, IsDistinct, list_any}
 use Rattle.std.specs.FinMap as finmap
 use Rattle.std.proofs.lemmas.Map.Keys.{IsDistinct-cons, IsDistinct-head, IsDistinct-tail}
 use Rattle.cached_frag.specs.Cached.{Cached}
-use Rattle.dentry_cache.specs.Cache.{Leaf, leaf_is, stays}
+use Rattle.dentry_cache.specs.Cache.{Leaf, leaf_is, is_to_stay}
 use Rattle.dentry_cache.specs.CacheCalls.{IsAbsent}
-use Rattle.dentry_cache.specs.CacheMap.{At, CacheMap, at_rank, clean_in, first, given_up, goes, has_place, here, less, order, roomy, used_at}
+use Rattle.dentry_cache.specs.CacheMap.{At, CacheMap, at_rank, clean_in, moved_first, given_up, goes, has_place, here, less, order, roomy, used_at}
 use Rattle.dentry_cache.specs.CacheSplits.{IsKeptFor}
 use Rattle.dentry_cache.proofs.CameLaws.{absent_roomy}
 use Rattle.dentry_cache.proofs.StepLaws.{any_less, by_room, get_beside}
@@ -42,7 +42,7 @@ less_distinct leaf (x ∷ xs) distinct = go (leaf_is leaf x) (less_distinct leaf
     go true rest = IsDistinct-tail leaf_is x xs distinct
     go false rest = IsDistinct-cons leaf_is x (less leaf xs) (all_less (λ (y : Leaf). leaf_is x y ≡ false) leaf xs (IsDistinct-head leaf_is x xs distinct)) rest
 
-pub first_distinct : (leaf : Leaf) (xs : List Leaf) → IsDistinct leaf_is xs → IsDistinct leaf_is (first leaf xs)
+pub first_distinct : (leaf : Leaf) (xs : List Leaf) → IsDistinct leaf_is xs → IsDistinct leaf_is (moved_first leaf xs)
 first_distinct leaf xs distinct = IsDistinct-cons leaf_is leaf (less leaf xs) (less_apart leaf xs distinct) (less_distinct leaf xs distinct)
 
 pub same_filter : (p q : Leaf → Bool) (xs : List Leaf) → AllByRecursion (λ (x : Leaf). p x ≡ q x) xs → filter p xs ≡ filter q xs
@@ -61,8 +61,8 @@ none_less q leaf (x ∷ xs) none = go (leaf_is q x) refl none (leaf_is leaf x) (
 -- ---- one step at a rank
 
 module _ (c : CacheMap) (r : ℕ) (there : r < length c.used) where
-  pub order_used : (leaf : Leaf) → order (used_at c r leaf) r ≡ first leaf (order c r)
-  order_used leaf = get_or-set_same c.used r (first leaf (order c r)) [] there
+  pub order_used : (leaf : Leaf) → order (used_at c r leaf) r ≡ moved_first leaf (order c r)
+  order_used leaf = get_or-set_same c.used r (moved_first leaf (order c r)) [] there
 
   pub order_given_up : (leaf : Leaf) → order (given_up c r leaf) r ≡ less leaf (order c r)
   order_given_up leaf = get_or-set_same c.used r (less leaf (order c r)) [] there
@@ -94,7 +94,7 @@ module _ (c mid : CacheMap) (r : ℕ) (stay : Option Leaf) (there : r < length c
       go : (b : Bool) → leaf_is q v ≡ b → b ≡ false
       go false seen = refl
       go true seen =
-          let clash : false ≡ true = ap (λ (o : Option At). clean_in (at_rank r o) && not (stays stay v)) (sym (ap (finmap.get c.held) (sym (one_leaf q v seen)) ∙ none)) ∙ passes in absurd cc
+          let clash : false ≡ true = ap (λ (o : Option At). clean_in (at_rank r o) && not (is_to_stay stay v)) (sym (ap (finmap.get c.held) (sym (one_leaf q v seen)) ∙ none)) ∙ passes in absurd cc
 
   pub roomy_kept : (q : Leaf) → IsKeptFor c r q → IsKeptFor mid r q
   roomy_kept q kept = (

@@ -5,8 +5,8 @@ use Rattle.sorted_map.proofs.NatKeys.{is_apart, is_same, same_or_apart}
 use Rattle.objstore.specs.Objects.{Objects}
 use Rattle.cached_frag.specs.Cached.{Cached}
 use Rattle.dentry_cache.specs.Cache.{IsThere, Leaf, leaf_is}
-use Rattle.dentry_cache.specs.CacheCalls.{IsWhole, LacksAt, kept_at, unclean_at}
-use Rattle.dentry_cache.specs.CacheMap.{AreCaches, CacheMap, first, given_up, has_place, here, less, order, rewritten, roomy, used_at, with_frag}
+use Rattle.dentry_cache.specs.CacheCalls.{HasNoKeptPlace, LacksAt, kept_at, unclean_at}
+use Rattle.dentry_cache.specs.CacheMap.{AreCaches, CacheMap, moved_first, given_up, has_place, here, less, order, rewritten, roomy, used_at, with_frag}
 use Rattle.dentry_cache.specs.Reads.{Reads}
 use Rattle.dentry_cache.specs.Reads.Reads.{stays as it_stays, uses, grows, loads, room, frees}
 use Rattle.dentry_cache.proofs.CountLaws.{full_counts, staying}
@@ -28,13 +28,13 @@ caches_placed c valid = record { placed = valid.placed; distinct = valid.distinc
 
 -- a place that was there is there where another is used
 pub still_used : (c : CacheMap) (r : ℕ) (leaf : Leaf) (s : ℕ) (q : Leaf) → has_place c s q ≡ true → has_place (used_at c r leaf) s q ≡ true
-still_used c r leaf s q is = go (set_either c.used r s (first leaf (order c r)))
+still_used c r leaf s q is = go (set_either c.used r s (moved_first leaf (order c r)))
   where
     on : (b : Bool) → leaf_is q leaf ≡ b → list_any (leaf_is q) (order c r) ≡ true → (b || list_any (leaf_is q) (less leaf (order c r))) ≡ true
     on true one among = refl
     on false one among = any_less q leaf (order c r) one ∙ among
 
-    go : ((s ≡ r) × (get_or (set c.used r (first leaf (order c r))) s [] ≡ first leaf (order c r))) ⊎ (get_or (set c.used r (first leaf (order c r))) s [] ≡ get_or c.used s []) → has_place (used_at c r leaf) s q ≡ true
+    go : ((s ≡ r) × (get_or (set c.used r (moved_first leaf (order c r))) s [] ≡ moved_first leaf (order c r))) ⊎ (get_or (set c.used r (moved_first leaf (order c r))) s [] ≡ get_or c.used s []) → has_place (used_at c r leaf) s q ≡ true
     go (inl set) = ap (list_any (leaf_is q)) set.1 ∙ on (leaf_is q leaf) refl (ap (λ (k : ℕ). has_place c k q) (sym set.0) ∙ is)
     go (inr same) = ap (list_any (leaf_is q)) same ∙ is
 
@@ -56,18 +56,18 @@ order_distinct xss r s xs new old = go (set_either xss r s xs)
 pub placed_by_use : (c : CacheMap) (r : ℕ) (leaf : Leaf) → IsPlaced c → IsPlaced (used_at c r leaf)
 placed_by_use c r leaf p = record {
   placed = λ s q some. still_used c r leaf s q (p.placed s q some);
-  distinct = λ s. order_distinct c.used r s (first leaf (order c r)) (first_distinct leaf (order c r) (p.distinct r)) (p.distinct s);
+  distinct = λ s. order_distinct c.used r s (moved_first leaf (order c r)) (first_distinct leaf (order c r) (p.distinct r)) (p.distinct s);
 }
 
 pub placed_by_frag : (c : CacheMap) (r : ℕ) (leaf : Leaf) (f : Cached) → r < length c.used → IsPlaced c → IsPlaced (with_frag c r leaf f)
 placed_by_frag c r leaf f there p = record {
   placed = λ s q some. go s q (leaf_is q leaf) refl (same_or_apart r s) (ap (λ (o : Option Cached). is_some o) (sym (here_with_frag c r leaf f s q)) ∙ some);
-  distinct = λ s. order_distinct c.used r s (first leaf (order c r)) (first_distinct leaf (order c r) (p.distinct r)) (p.distinct s);
+  distinct = λ s. order_distinct c.used r s (moved_first leaf (order c r)) (first_distinct leaf (order c r) (p.distinct r)) (p.distinct s);
 }
   where
     go : (s : ℕ) (q : Leaf) (b : Bool) → leaf_is q leaf ≡ b → (r ≡ s) ⊎ (r ≡ s → ⊥) → is_some (cond b (cond (r == s) (Some f) None) (here c s q)) ≡ true → has_place (with_frag c r leaf f) s q ≡ true
     go s q true one (inl same) some =
-        ap (λ (k : ℕ). has_place (with_frag c r leaf f) k q) (sym same) ∙ ap (list_any (leaf_is q)) (get_or-set_same c.used r (first leaf (order c r)) [] there) ∙ ap (λ (b : Bool). b || list_any (leaf_is q) (less leaf (order c r))) one
+        ap (λ (k : ℕ). has_place (with_frag c r leaf f) k q) (sym same) ∙ ap (list_any (leaf_is q)) (get_or-set_same c.used r (moved_first leaf (order c r)) [] there) ∙ ap (λ (b : Bool). b || list_any (leaf_is q) (less leaf (order c r))) one
     go s q true one (inr apart) some = let clash : false ≡ true = ap (λ (b : Bool). is_some (cond b (Some f) None)) (sym (is_apart r s apart)) ∙ some in absurd cc
     go s q false one either some = still_used c r leaf s q (p.placed s q some)
 
@@ -137,7 +137,7 @@ all_among xs = go xs (λ x is. is)
         later x false is = is
 
 -- where each place has its fragment, none is kept
-pub none_kept_at : (c : CacheMap) (r : ℕ) → ((q : Leaf) → IsWhole c r q) → length (kept_at c r) ≡ 0
+pub none_kept_at : (c : CacheMap) (r : ℕ) → ((q : Leaf) → HasNoKeptPlace c r q) → length (kept_at c r) ≡ 0
 none_kept_at c r whole = among_itself (order c r) (order c r) (all_among (order c r)) (λ (x : Leaf). not (is_some (here c r x))) (λ x among. there (here c r x) (whole x among))
   where
     there : (o : Option Cached) → IsThere o → not (is_some o) ≡ false
@@ -145,7 +145,7 @@ none_kept_at c r whole = among_itself (order c r) (order c r) (all_among (order 
     there None is = absurd is
 
 -- no place is free and none can become so: as many are lacking as are to stay, and one
-pub full_lacks : (c : CacheMap) (r : ℕ) (stay : Option Leaf) → AreCaches c → ((q : Leaf) → IsWhole c r q) → roomy c r stay ≡ None → LacksAt (staying stay + 1) c r
+pub full_lacks : (c : CacheMap) (r : ℕ) (stay : Option Leaf) → AreCaches c → ((q : Leaf) → HasNoKeptPlace c r q) → roomy c r stay ≡ None → LacksAt (staying stay + 1) c r
 full_lacks c r stay valid whole full =
     let most : c.cap ≤ length (unclean_at c r) + length (kept_at c r) + staying stay = full_counts c r stay valid full in
     let none : length (kept_at c r) ≡ 0 = none_kept_at c r whole in

@@ -17,8 +17,8 @@ use Rattle.namehash.specs.Rjenkins.{hash_of}
 use Rattle.dirfrag_codec.specs.declared.headers.FragHeader.{FragHeader}
 use Rattle.dirfrag_codec.specs.EntryRecord.{SpellsEntry}
 use Rattle.dirfrag_codec.specs.FragHeader.{SpellsHeader}
-use Rattle.dirfrag_codec.specs.FragmentObject.{HasPair, IsPairOf, Names, SpellsKey, SpellsNames, header_for, with_entry}
-use Rattle.dirfrag_codec.specs.Values.{entry_of, name_of}
+use Rattle.dirfrag_codec.specs.FragmentObject.{HasPair, IsPairOf, Names, SpellsKey, SpellsNames, header_for, with_pair}
+use Rattle.dirfrag_codec.specs.Values.{inode_of_record, name_of_key}
 use Rattle.dirfrag_codec.proofs.ByteKeys.{get_beside, get_put, key_apart, key_same, not_found, same_or_apart}
 use Rattle.dirfrag_codec.proofs.FragmentLaws.{names_shown, one_name, spells_what_it_shows}
 use Rattle.dirfrag_codec.proofs.HeaderLaws.{one_header}
@@ -26,10 +26,10 @@ use Rattle.dirfrag_codec.proofs.RecordLaws.{one_entry, recorded as spelled_recor
 use Rattle.dirfrag_codec.proofs.ValueLaws.{one_key, read_as, reads_entry, reads_key, spelled_as}
 use Rattle.cached_frag.specs.declared.bases.Base.TheVariants.{Stored}
 use Rattle.cached_frag.specs.Snap.{counts_of}
-use Rattle.cached_frag.specs.Cached.{AreEntries, Cached, shown}
+use Rattle.cached_frag.specs.Cached.{AreEntries, Cached, shown_names}
 use Rattle.cached_frag.proofs.ShownLaws.{only_below}
 use Rattle.dentry_cache.specs.Loading.{AreWithin, IsSaved, IsWhole, Loads}
-use Rattle.dentry_cache.specs.Pairs.{AreNamesOf, IsCounted, IsHeaderOf, added, are_good, holds, is_good, is_good_as}
+use Rattle.dentry_cache.specs.Pairs.{ArePairNames, HasHeaderCounts, IsHeaderOf, added, are_good, holds, is_good, is_good_as}
 use Rattle.dentry_cache.specs.Ties.{names_at}
 
 -- ---- good pairs
@@ -41,32 +41,32 @@ pub record Says (frag : Fragment) (key bytes : List ℕ) : Type 0 where
   pub named : IsName name
   pub keyed : key ≡ entry_key name
   pub spelled : SpellsEntry bytes inode
-  pub key_is : name_of key ≡ Some name
-  pub record_is : entry_of bytes ≡ Some inode
+  pub key_is : name_of_key key ≡ Some name
+  pub record_is : inode_of_record bytes ≡ Some inode
   pub within : holds frag (hash_of name) ≡ true
 
-says_as : (frag : Fragment) (key bytes : List ℕ) (name : Option (List ℕ)) (inode : Option Inode) → name_of key ≡ name → entry_of bytes ≡ inode → is_good_as frag name inode ≡ true → Says frag key bytes
+says_as : (frag : Fragment) (key bytes : List ℕ) (name : Option (List ℕ)) (inode : Option Inode) → name_of_key key ≡ name → inode_of_record bytes ≡ inode → is_good_as frag name inode ≡ true → Says frag key bytes
 says_as frag key bytes None inode k r good = absurd cc
 says_as frag key bytes (Some name) None k r good = absurd cc
 says_as frag key bytes (Some name) (Some inode) k r good =
-    let s = spelled_as SpellsKey name_of reads_key key name k in
+    let s = spelled_as SpellsKey name_of_key reads_key key name k in
     record {
       name = name;
       inode = inode;
       named = s.0;
       keyed = s.1;
-      spelled = spelled_as SpellsEntry entry_of reads_entry bytes inode r;
+      spelled = spelled_as SpellsEntry inode_of_record reads_entry bytes inode r;
       key_is = k;
       record_is = r;
       within = good;
     }
 
 says : (frag : Fragment) (pair : List ℕ × List ℕ) → is_good frag pair ≡ true → Says frag pair.0 pair.1
-says frag pair good = says_as frag pair.0 pair.1 (name_of pair.0) (entry_of pair.1) refl refl good
+says frag pair good = says_as frag pair.0 pair.1 (name_of_key pair.0) (inode_of_record pair.1) refl refl good
 
 -- names with those of good pairs
 abbrev at_key : Option (List ℕ) → Option Inode → Option Inode
-at_key (Some bytes) below = entry_of bytes
+at_key (Some bytes) below = inode_of_record bytes
 at_key None below = below
 
 abbrev found : List ℕ → List (List ℕ × List ℕ) → Option (List ℕ)
@@ -75,14 +75,14 @@ found q es = find key_cmp (entry_key q) es
 get-added : (frag : Fragment) (es : List (List ℕ × List ℕ)) (names : Names) (q : List ℕ) → T (is_sorted key_cmp es) → are_good frag es ≡ true → map.get (added names es) q ≡ at_key (found q es) (map.get names q)
 get-added frag [] names q sorted good = refl
 get-added frag (e ∷ es) names q sorted good =
-    get-added frag es (with_entry names (name_of e.0) (entry_of e.1)) q (right_of _ _ sorted) (and_parts (is_good frag e) (are_good frag es) good).1
+    get-added frag es (with_pair names (name_of_key e.0) (inode_of_record e.1)) q (right_of _ _ sorted) (and_parts (is_good frag e) (are_good frag es) good).1
     ∙ ap (λ (n : Names). at_key (found q es) (map.get n q)) one_more ∙ go (same_or_apart q p.name)
   where
     p : Says frag e.0 e.1
     p = says frag e (and_parts (is_good frag e) (are_good frag es) good).0
 
-    one_more : with_entry names (name_of e.0) (entry_of e.1) ≡ map.insert names p.name p.inode
-    one_more = (λ i. with_entry names (p.key_is i) (p.record_is i))
+    one_more : with_pair names (name_of_key e.0) (inode_of_record e.1) ≡ map.insert names p.name p.inode
+    one_more = (λ i. with_pair names (p.key_is i) (p.record_is i))
 
     go : (q ≡ p.name) ⊎ (q ≡ p.name → ⊥) → at_key (found q es) (map.get (map.insert names p.name p.inode) q) ≡ at_key (cond (eq_by_cmp key_cmp (entry_key q) e.0) (Some e.1) (found q es)) (map.get names q)
     go (inl same) =
@@ -155,11 +155,11 @@ module _ (frag : Fragment) (pairs : PairMap) (names : Names) (good : are_good fr
         held = at p.name ∙ ap (λ (k : List ℕ). at_key (map.get pairs k) None) (sym p.keyed) ∙ ap (λ (r : Option (List ℕ)). at_key r None) is ∙ p.record_is;
       }
 
-  stands : (q : List ℕ) (inode : Inode) (r : Option (List ℕ)) → map.get pairs (entry_key q) ≡ r → at_key r None ≡ Some inode → (bytes : List ℕ) × (map.get pairs (entry_key q) ≡ Some bytes) × (entry_of bytes ≡ Some inode)
+  stands : (q : List ℕ) (inode : Inode) (r : Option (List ℕ)) → map.get pairs (entry_key q) ≡ r → at_key r None ≡ Some inode → (bytes : List ℕ) × (map.get pairs (entry_key q) ≡ Some bytes) × (inode_of_record bytes ≡ Some inode)
   stands q inode (Some bytes) is here = (bytes, is, here)
   stands q inode None is here = absurd cc
 
-  where_from : (q : List ℕ) (inode : Inode) → map.get names q ≡ Some inode → (bytes : List ℕ) × (map.get pairs (entry_key q) ≡ Some bytes) × (entry_of bytes ≡ Some inode)
+  where_from : (q : List ℕ) (inode : Inode) → map.get names q ≡ Some inode → (bytes : List ℕ) × (map.get pairs (entry_key q) ≡ Some bytes) × (inode_of_record bytes ≡ Some inode)
   where_from q inode is = stands q inode (map.get pairs (entry_key q)) refl (sym (at q) ∙ is)
 
   holds_all : (q : List ℕ) (inode : Inode) → map.get names q ≡ Some inode → HasPair pairs q inode
@@ -170,7 +170,7 @@ module _ (frag : Fragment) (pairs : PairMap) (names : Names) (good : are_good fr
         named = subst IsName (one_name p.name q (sym p.keyed)) p.named;
         bytes = w.0;
         stands = w.1;
-        spelled = spelled_as SpellsEntry entry_of reads_entry w.0 inode w.2;
+        spelled = spelled_as SpellsEntry inode_of_record reads_entry w.0 inode w.2;
       }
 
   pub names_spelled : SpellsNames pairs names
@@ -192,8 +192,8 @@ module _ (frag : Fragment) (object : Omap) (version : ℕ) (names : Names) (w : 
   one_good : (key bytes : List ℕ) → map.get object.pairs key ≡ Some bytes → is_good frag (key, bytes) ≡ true
   one_good key bytes is =
       let p = w.0.pairs.read key bytes is in
-      let n : name_of key ≡ Some p.name = read_as SpellsKey name_of one_key reads_key key p.name (p.named, p.keyed) in
-      let r : entry_of bytes ≡ Some p.inode = read_as SpellsEntry entry_of one_entry reads_entry bytes p.inode p.spelled in
+      let n : name_of_key key ≡ Some p.name = read_as SpellsKey name_of_key one_key reads_key key p.name (p.named, p.keyed) in
+      let r : inode_of_record bytes ≡ Some p.inode = read_as SpellsEntry inode_of_record one_entry reads_entry bytes p.inode p.spelled in
       (λ i. is_good_as frag (n i) (r i)) ∙ contains_holds frag (hash_of p.name) (w.1 p.name p.inode p.held)
 
   whole_good : are_good frag (pairs_after object.pairs None) ≡ true
@@ -205,24 +205,24 @@ pub no_header : (frag : Fragment) (object : Option Omap) → IsHeaderOf object N
 no_header frag None h = tt
 no_header frag (Some object) h = λ version names w. h (header_for version names) w.0.header
 
-off_grammar : (frag : Fragment) (object : Option Omap) → AreNamesOf frag object None → Loads frag object None
+off_grammar : (frag : Fragment) (object : Option Omap) → ArePairNames frag object None → Loads frag object None
 off_grammar frag None h = tt
 off_grammar frag (Some object) (inl none) = absurd cc
 off_grammar frag (Some object) (inr bad) = λ version names w. let clash : true ≡ false = sym (whole_good frag object version names w) ∙ bad in cc
 
-pub no_names : (frag : Fragment) (object now : Option Omap) → now ≡ object → AreNamesOf frag now None → Loads frag object None
+pub no_names : (frag : Fragment) (object now : Option Omap) → now ≡ object → ArePairNames frag now None → Loads frag object None
 no_names frag object now same h = subst (λ (o : Option Omap). Loads frag o None) same (off_grammar frag now h)
 
-pub entries_read : (frag : Fragment) (object : Option Omap) (names : Shown (List ℕ) Inode) → AreNamesOf frag object (Some names) → AreEntries (contents key_cmp names)
+pub entries_read : (frag : Fragment) (object : Option Omap) (names : Shown (List ℕ) Inode) → ArePairNames frag object (Some names) → AreEntries (contents key_cmp names)
 entries_read frag None names h = absurd cc
 entries_read frag (Some object) names h = names_entries frag object.pairs (contents key_cmp names) h.1 h.2
 
 module _ (frag : Fragment) (object : Omap) (names : Names) (header : FragHeader) (f : Cached) (spelled : SpellsHeader object.header header) (good : are_good frag (pairs_after object.pairs None) ≡ true)
     (read : names ≡ added map.empty (pairs_after object.pairs None)) (free : ℕ) (is : f ≡ record { base = Stored header.version; generation = 0; clean = names; dirty = map.empty; room = 0; places = free }) where
-  counts_are : counts_of (shown f) ≡ counts_of names
-  counts_are = ap (λ (g : Cached). counts_of (shown g)) is ∙ ap counts_of (only_below names map.empty refl)
+  counts_are : counts_of (shown_names f) ≡ counts_of names
+  counts_are = ap (λ (g : Cached). counts_of (shown_names g)) is ∙ ap counts_of (only_below names map.empty refl)
 
-  counted_whole : (loaded : Option Cached) → IsCounted f header loaded → Loads frag (Some object) loaded
+  counted_whole : (loaded : Option Cached) → HasHeaderCounts f header loaded → Loads frag (Some object) loaded
   counted_whole (Some loaded) h =
       let counts : counts_of names ≡ record { files = header.files; dirs = header.dirs } = sym counts_are ∙ h.1 in
       let same : header ≡ header_for header.version names = λ i. record { version = header.version; files = (sym counts i).files; dirs = (sym counts i).dirs } in
@@ -238,11 +238,11 @@ module _ (frag : Fragment) (object : Omap) (names : Names) (header : FragHeader)
       let one : other ≡ names = names_shown object.pairs other w.0.pairs ∙ sym (names_shown object.pairs names (names_spelled frag object.pairs names good read)) in
       h (counts_are ∙ ap counts_of (sym one) ∙ (λ i. record { files = (sym headers i).files; dirs = (sym headers i).dirs }))
 
-pub loaded_is : (frag : Fragment) (object now : Option Omap) (names : Shown (List ℕ) Inode) (header : FragHeader) (f : Cached) (loaded : Option Cached) → now ≡ object → IsHeaderOf object (Some header) → AreNamesOf frag now (Some names)
-    → f ≡ record { base = Stored header.version; generation = 0; clean = contents key_cmp names; dirty = map.empty; room = 0; places = names.room } → IsCounted f header loaded → Loads frag object loaded
+pub loaded_is : (frag : Fragment) (object now : Option Omap) (names : Shown (List ℕ) Inode) (header : FragHeader) (f : Cached) (loaded : Option Cached) → now ≡ object → IsHeaderOf object (Some header) → ArePairNames frag now (Some names)
+    → f ≡ record { base = Stored header.version; generation = 0; clean = contents key_cmp names; dirty = map.empty; room = 0; places = names.room } → HasHeaderCounts f header loaded → Loads frag object loaded
 loaded_is frag None now names header f loaded same h n is counted = absurd h
 loaded_is frag (Some object) now names header f loaded same h n is counted =
-    let m = subst (λ (o : Option Omap). AreNamesOf frag o (Some names)) same n in
+    let m = subst (λ (o : Option Omap). ArePairNames frag o (Some names)) same n in
     counted_whole frag object (contents key_cmp names) header f h m.1 m.2 names.room is loaded counted
 
 -- ---- what was read of it
@@ -253,9 +253,9 @@ loaded_is_saved frag None f loads = loads
 loaded_is_saved frag (Some object) f (version, names, whole, is) = (version, names, whole)
 
 -- its names are those that the fragment shows
-pub loaded_shows : (frag : Fragment) (object : Option Omap) (f : Cached) → Loads frag object (Some f) → shown f ≡ names_at object
+pub loaded_shows : (frag : Fragment) (object : Option Omap) (f : Cached) → Loads frag object (Some f) → shown_names f ≡ names_at object
 loaded_shows frag None f loads = absurd loads
-loaded_shows frag (Some object) f (version, names, whole, is) = ap shown is ∙ only_below names map.empty refl ∙ spells_what_it_shows object version names whole.0
+loaded_shows frag (Some object) f (version, names, whole, is) = ap shown_names is ∙ only_below names map.empty refl ∙ spells_what_it_shows object version names whole.0
 
 -- and none of them is dirty
 none_dirty : (frag : Fragment) (object : Option Omap) (f : Cached) → Loads frag object (Some f) → f.dirty ≡ map.empty

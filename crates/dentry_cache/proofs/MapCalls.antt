@@ -18,7 +18,7 @@ use Rattle.dentry_cache.specs.declared.cache.Place.{Place}
 use Rattle.dentry_cache.specs.Cache.{Evicts, HasRoom, Held, IsChanged, IsFull, IsThere, IsWritten, Leaf, MakesRoom, MayMakeRoom, NoneGoes, Places, TakesPlace, cached, fragment_in, held, is_kept, kept_place, leaf_cmp, leaf_is, may_go, used_as, without}
 use Rattle.dentry_cache.specs.CacheMap.{AreAtOneRank, AreCaches, At, CacheMap, IsFree, IsFreeFor, at_rank, cache_map, edited, evicted, given_up, has_place, here, no_cache, order, orders, removed, rewritten, roomy, used_at, victim, with_frag}
 use Rattle.dentry_cache.specs.Places.{IsCache}
-use Rattle.dentry_cache.specs.CacheCalls.{CanKeep, CanNotKeep, Edits, FetchesAt, IsAbsent, IsEdited, IsRefusedAt, IsRewritten, IsWhole, KeepsAt, MakesRoomAt, MayNotFetchAt, MayNotKeepAt, Rewrites, going_at}
+use Rattle.dentry_cache.specs.CacheCalls.{CanKeep, CanNotKeep, Edits, FetchesAt, IsAbsent, IsEdited, IsRefusedAt, IsRewritten, HasNoKeptPlace, KeepsAt, MakesRoomAt, MayNotFetchAt, MayNotKeepAt, Rewrites, going_at}
 use Rattle.dentry_cache.specs.Fetches.{IsFetched, IsNotFetched, IsRefusedIn, MayNotFetch}
 use Rattle.dentry_cache.proofs.MapLaws.{cached_placed, changed_so, each_at, evicted_so, frag_so, get_held, given_up_so, going_so, here_free, none_evicted, none_roomy, order_is, rewritten_so, roomy_so, used_so}
 use Rattle.dentry_cache.proofs.OneCache.{HasRoomFor, none_distinct, room_then, changed, changed_by, dropped, evicts_by, full_by, makes_room_by, none_by, room_made}
@@ -414,6 +414,6 @@ module _ (cs : List Held) (cap r : ℕ) (old : CacheMap) (view : cache_map cs ca
     fetch_refused before then NotClean why = absurd why
 
 -- a leaf that is fetched is there, if no place was kept for it
-pub fetched_there : (r : ℕ) (leaf : Leaf) (stay : Option Leaf) (object : Option Omap) (old now : CacheMap) → IsWhole old r leaf → (b : Bool) → has_place old r leaf ≡ b → FetchesAt r leaf stay object b old now → IsThere (here now r leaf)
+pub fetched_there : (r : ℕ) (leaf : Leaf) (stay : Option Leaf) (object : Option Omap) (old now : CacheMap) → HasNoKeptPlace old r leaf → (b : Bool) → has_place old r leaf ≡ b → FetchesAt r leaf stay object b old now → IsThere (here now r leaf)
 fetched_there r leaf stay object old now whole true seen is = subst (λ (c : CacheMap). IsThere (here c r leaf)) (sym is) (whole seen)
 fetched_there r leaf stay object old now whole false seen f = subst IsThere (sym (ap (λ (c : CacheMap). here c r leaf) f.5 ∙ here_put f.3 r leaf f.1)) tt

@@ -13,9 +13,9 @@ use Rattle.std.proofs.lemmas.Map.Entries.{length-keys_of}
 use Rattle.sorted_map.proofs.NatKeys.{is_apart, is_same, same_or_apart}
 use Rattle.cached_frag.specs.Cached.{Cached, is_clean}
 use Rattle.dentry_cache.specs.declared.cache.Place.{Place}
-use Rattle.dentry_cache.specs.Cache.{Held, Leaf, Places, cached, fragment_in, held, leaf_cmp, leaf_is, may_go, stays, used_as, without}
+use Rattle.dentry_cache.specs.Cache.{Held, Leaf, Places, cached, fragment_in, held, leaf_cmp, leaf_is, may_go, is_to_stay, used_as, without}
 use Rattle.dentry_cache.specs.CacheCalls.{going_at}
-use Rattle.dentry_cache.specs.CacheMap.{AreAtOneRank, At, CacheMap, IsFree, IsFreeFor, at, at_rank, cache_map, clean_in, edited, edited_as, evicted, first, flat, found, frag_at, given_up, goes, held_of, here, last_by, less, no_cache, or_later, or_this, order, orders, removed, rewritten, roomy, tabulate, used_at, victim, with_frag, with_some}
+use Rattle.dentry_cache.specs.CacheMap.{AreAtOneRank, At, CacheMap, IsFree, IsFreeFor, lies_by, at_rank, cache_map, clean_in, edited, edited_as, evicted, moved_first, flat, found, frag_at, given_up, goes, held_of, here, last_by, less, no_cache, or_later, or_this, order, orders, removed, rewritten, roomy, tabulate, used_at, victim, with_frag, with_some}
 use Rattle.dentry_cache.proofs.OneCache.{HasRoomFor, cached_set, cached_used, cached_without, changed, dropped, room_made, set_valid, used_valid, without_valid}
 use Rattle.dentry_cache.specs.Places.{IsCache}
 use Rattle.dentry_cache.proofs.LeafLaws.{flips, leaf-exact, leaf-total, leaf_itself, one_leaf, tied_leaf}
@@ -51,9 +51,9 @@ module _ {X : Type 0} (f : Leaf → Option X) where
       same is = ap f (sym (one_leaf q k is))
 
       go : (b : Bool) → leaf_is q k ≡ b → (o : Option X) → f k ≡ o → (t : Bool) → cond (b && is_some o) o (cond t (f q) None) ≡ cond (b || t) (f q) None
-      go false is o at t = refl
-      go true is (Some x) at t = sym at ∙ same is
-      go true is None at t = go2 t (f q) (sym (same is) ∙ at)
+      go false is o lies_by t = refl
+      go true is (Some x) lies_by t = sym lies_by ∙ same is
+      go true is None lies_by t = go2 t (f q) (sym (same is) ∙ lies_by)
         where
           go2 : (t : Bool) (o : Option X) → o ≡ None → cond t o None ≡ o
           go2 true o none = refl
@@ -91,12 +91,12 @@ nowhere : (n : ℕ) (cs : List Held) (q : Leaf) → ((r : ℕ) → frag_at cs r 
 nowhere n [] q none = refl
 nowhere n (c ∷ cs) q none = ap (λ (o : Option Cached). or_later n o (found (suc n) cs q)) (none zero) ∙ nowhere (suc n) cs q (λ r. none (suc r))
 
-only_at : (n : ℕ) (cs : List Held) (r : ℕ) (q : Leaf) (f : Cached) → frag_at cs r q ≡ Some f → ((b : ℕ) → b ≢ r → frag_at cs b q ≡ None) → found n cs q ≡ Some (at (n + r) f)
+only_at : (n : ℕ) (cs : List Held) (r : ℕ) (q : Leaf) (f : Cached) → frag_at cs r q ≡ Some f → ((b : ℕ) → b ≢ r → frag_at cs b q ≡ None) → found n cs q ≡ Some (lies_by (n + r) f)
 only_at n [] r q f is none = let clash : None ≡ Some f = is in absurd cc
-only_at n (c ∷ cs) zero q f is none = ap (λ (o : Option Cached). or_later n o (found (suc n) cs q)) is ∙ ap (λ (k : ℕ). Some (at k f)) (omega arith)
+only_at n (c ∷ cs) zero q f is none = ap (λ (o : Option Cached). or_later n o (found (suc n) cs q)) is ∙ ap (λ (k : ℕ). Some (lies_by k f)) (omega arith)
 only_at n (c ∷ cs) (suc r) q f is none =
     ap (λ (o : Option Cached). or_later n o (found (suc n) cs q)) (none zero (λ (e : zero ≡ suc r). omega (arith, e)))
-    ∙ only_at (suc n) cs r q f is (λ b apart. none (suc b) (λ (e : suc b ≡ suc r). apart (omega (arith, e)))) ∙ ap (λ (k : ℕ). Some (at k f)) (omega arith)
+    ∙ only_at (suc n) cs r q f is (λ b apart. none (suc b) (λ (e : suc b ≡ suc r). apart (omega (arith, e)))) ∙ ap (λ (k : ℕ). Some (lies_by k f)) (omega arith)
 
 -- what each rank has of a leaf tells where it is found
 found_is : (cs : List Held) (q : Leaf) (o : Option At) → ((r : ℕ) → frag_at cs r q ≡ at_rank r o) → found 0 cs q ≡ o
@@ -104,7 +104,7 @@ found_is cs q None each = nowhere 0 cs q each
 found_is cs q (Some a) each =
     only_at 0 cs a.rank q a.frag (each a.rank ∙ ap (λ b. cond b (Some a.frag) None) (is_same a.rank a.rank refl))
     (λ b apart. each b ∙ ap (λ t. cond t (Some a.frag) None) (is_apart a.rank b (λ (e : a.rank ≡ b). apart (sym e))))
-    ∙ ap (λ (k : ℕ). Some (at k a.frag)) (omega arith)
+    ∙ ap (λ (k : ℕ). Some (lies_by k a.frag)) (omega arith)
 
 pub at_other : (r b : ℕ) (o : Option At) → IsFree r o → b ≢ r → at_rank b o ≡ None
 at_other r b None free apart = refl
@@ -183,26 +183,26 @@ module _ (cs : List Held) (cap r : ℕ) (sound : AreAtOneRank cap cs) (there : r
     orders_then : (ks : List Leaf) → keys_of now.entries ≡ ks → orders then ≡ set (orders cs) r ks
     orders_then ks is = map-set (λ (c : Held). keys_of c.entries) cs r now ∙ ap (set (orders cs) r) is
 
-    first_then : (leaf : Leaf) (place : Place) → now ≡ used_as leaf place was → orders then ≡ set (orders cs) r (first leaf (order seen r))
+    first_then : (leaf : Leaf) (place : Place) → now ≡ used_as leaf place was → orders then ≡ set (orders cs) r (moved_first leaf (order seen r))
     first_then leaf place is =
-        orders_then (first leaf (order seen r)) (ap (λ (h : Held). keys_of h.entries) is ∙ ap (λ (ks : List Leaf). leaf ∷ ks) (keys_removed leaf was.entries ∙ ap (less leaf) (sym order_is)))
+        orders_then (moved_first leaf (order seen r)) (ap (λ (h : Held). keys_of h.entries) is ∙ ap (λ (ks : List Leaf). leaf ∷ ks) (keys_removed leaf was.entries ∙ ap (less leaf) (sym order_is)))
 
     -- the rank has this fragment of a leaf now
     has_frag : (leaf : Leaf) (f : Cached) → IsCache now → now.cap ≡ was.cap → ((q : Leaf) → cached now.entries q ≡ cond (leaf_is q leaf) (Some f) (at_rank r (finmap.get (held_of cs) q))) → IsFreeFor seen r leaf
-        → (held_of then ≡ finmap.insert (held_of cs) leaf (at r f)) × AreAtOneRank cap then
+        → (held_of then ≡ finmap.insert (held_of cs) leaf (lies_by r f)) × AreAtOneRank cap then
     has_frag leaf f fits size mine_now free =
-        raised (finmap.insert (held_of cs) leaf (at r f)) fits size (λ q. mine_now q ∙ mine q (leaf_is q leaf) ∙ sym (ap (at_rank r) (got q))) (λ b q apart. other b q apart (leaf_is q leaf) refl ∙ sym (ap (at_rank b) (got q)))
+        raised (finmap.insert (held_of cs) leaf (lies_by r f)) fits size (λ q. mine_now q ∙ mine q (leaf_is q leaf) ∙ sym (ap (at_rank r) (got q))) (λ b q apart. other b q apart (leaf_is q leaf) refl ∙ sym (ap (at_rank b) (got q)))
       where
-        got : (q : Leaf) → finmap.get (finmap.insert (held_of cs) leaf (at r f)) q ≡ cond (leaf_is q leaf) (Some (at r f)) (finmap.get (held_of cs) q)
-        got q = get-insert leaf-total (held_of cs) leaf (at r f) q ∙ ap (λ b. cond b (Some (at r f)) (finmap.get (held_of cs) q)) (tied_leaf q leaf)
+        got : (q : Leaf) → finmap.get (finmap.insert (held_of cs) leaf (lies_by r f)) q ≡ cond (leaf_is q leaf) (Some (lies_by r f)) (finmap.get (held_of cs) q)
+        got q = get-insert leaf-total (held_of cs) leaf (lies_by r f) q ∙ ap (λ b. cond b (Some (lies_by r f)) (finmap.get (held_of cs) q)) (tied_leaf q leaf)
 
-        mine : (q : Leaf) (b : Bool) → cond b (Some f) (at_rank r (finmap.get (held_of cs) q)) ≡ at_rank r (cond b (Some (at r f)) (finmap.get (held_of cs) q))
+        mine : (q : Leaf) (b : Bool) → cond b (Some f) (at_rank r (finmap.get (held_of cs) q)) ≡ at_rank r (cond b (Some (lies_by r f)) (finmap.get (held_of cs) q))
         mine q true = sym (ap (λ t. cond t (Some f) None) (is_same r r refl))
         mine q false = refl
 
-        other : (b : ℕ) (q : Leaf) → b ≢ r → (t : Bool) → leaf_is q leaf ≡ t → frag_at cs b q ≡ at_rank b (cond t (Some (at r f)) (finmap.get (held_of cs) q))
+        other : (b : ℕ) (q : Leaf) → b ≢ r → (t : Bool) → leaf_is q leaf ≡ t → frag_at cs b q ≡ at_rank b (cond t (Some (lies_by r f)) (finmap.get (held_of cs) q))
         other b q apart true one =
-            each_at b q ∙ ap (λ (l : Leaf). at_rank b (finmap.get (held_of cs) l)) (one_leaf q leaf one) ∙ at_other r b (finmap.get (held_of cs) leaf) free apart ∙ sym (at_other r b (Some (at r f)) refl apart)
+            each_at b q ∙ ap (λ (l : Leaf). at_rank b (finmap.get (held_of cs) l)) (one_leaf q leaf one) ∙ at_other r b (finmap.get (held_of cs) leaf) free apart ∙ sym (at_other r b (Some (lies_by r f)) refl apart)
         other b q apart false one = each_at b q
 
     module _ (leaf : Leaf) (place : Place) (is : now ≡ used_as leaf place was) (room : HasRoomFor leaf was) where
@@ -254,23 +254,23 @@ module _ (cs : List Held) (cap r : ℕ) (sound : AreAtOneRank cap cs) (there : r
         got q = get-remove leaf-total (held_of cs) leaf q ∙ ap (λ b. cond b None (finmap.get (held_of cs) q)) (tied_leaf q leaf)
 
         mine : (q : Leaf) (o : Option Cached) → here seen r leaf ≡ o → cond (leaf_is q leaf) None (at_rank r (finmap.get (held_of cs) q)) ≡ at_rank r (finmap.get (removed (held_of cs) leaf o) q)
-        mine q (Some f) at = go (leaf_is q leaf) ∙ sym (ap (at_rank r) (got q))
+        mine q (Some f) lies_by = go (leaf_is q leaf) ∙ sym (ap (at_rank r) (got q))
           where
             go : (b : Bool) → cond b None (at_rank r (finmap.get (held_of cs) q)) ≡ at_rank r (cond b None (finmap.get (held_of cs) q))
             go true = refl
             go false = refl
-        mine q None at = go (leaf_is q leaf) refl
+        mine q None lies_by = go (leaf_is q leaf) refl
           where
             go : (b : Bool) → leaf_is q leaf ≡ b → cond b None (at_rank r (finmap.get (held_of cs) q)) ≡ at_rank r (finmap.get (held_of cs) q)
-            go true one = sym (ap (λ (l : Leaf). here seen r l) (one_leaf q leaf one) ∙ at)
+            go true one = sym (ap (λ (l : Leaf). here seen r l) (one_leaf q leaf one) ∙ lies_by)
             go false one = refl
 
         other : (b : ℕ) (q : Leaf) → b ≢ r → (o : Option Cached) → here seen r leaf ≡ o → frag_at cs b q ≡ at_rank b (finmap.get (removed (held_of cs) leaf o) q)
-        other b q apart None at = each_at b q
-        other b q apart (Some f) at = each_at b q ∙ go (leaf_is q leaf) refl ∙ sym (ap (at_rank b) (got q))
+        other b q apart None lies_by = each_at b q
+        other b q apart (Some f) lies_by = each_at b q ∙ go (leaf_is q leaf) refl ∙ sym (ap (at_rank b) (got q))
           where
             go : (t : Bool) → leaf_is q leaf ≡ t → at_rank b (finmap.get (held_of cs) q) ≡ at_rank b (cond t None (finmap.get (held_of cs) q))
-            go true one = ap (λ (l : Leaf). at_rank b (finmap.get (held_of cs) l)) (one_leaf q leaf one) ∙ at_other r b (finmap.get (held_of cs) leaf) (here_free r (finmap.get (held_of cs) leaf) (ap (λ (o : Option Cached). is_some o) at)) apart
+            go true one = ap (λ (l : Leaf). at_rank b (finmap.get (held_of cs) l)) (one_leaf q leaf one) ∙ at_other r b (finmap.get (held_of cs) leaf) (here_free r (finmap.get (held_of cs) leaf) (ap (λ (o : Option Cached). is_some o) lies_by)) apart
             go false one = refl
 
     -- a fragment is changed
@@ -279,9 +279,9 @@ module _ (cs : List Held) (cap r : ℕ) (sound : AreAtOneRank cap cs) (there : r
     changed_so leaf g some is = go (here seen r leaf) refl some
       where
         go : (o : Option Cached) → here seen r leaf ≡ o → is_some o ≡ true → (cache_map then cap ≡ edited_as seen r leaf g o) × AreAtOneRank cap then
-        go None at some = let clash : false ≡ true = some in absurd cc
-        go (Some f) at some =
-            rewritten_so leaf (g f) (is ∙ ap (λ (o : Option Cached). changed leaf g o was) (each_at r leaf ∙ at)) (cached_placed leaf was.entries (ap (λ (o : Option Cached). is_some o) (each_at r leaf ∙ at))) (here_free r (finmap.get (held_of cs) leaf) (ap (λ (o : Option Cached). is_some o) at))
+        go None lies_by some = let clash : false ≡ true = some in absurd cc
+        go (Some f) lies_by some =
+            rewritten_so leaf (g f) (is ∙ ap (λ (o : Option Cached). changed leaf g o was) (each_at r leaf ∙ lies_by)) (cached_placed leaf was.entries (ap (λ (o : Option Cached). is_some o) (each_at r leaf ∙ lies_by))) (here_free r (finmap.get (held_of cs) leaf) (ap (λ (o : Option Cached). is_some o) lies_by))
 
 -- ---- the least recently used that may go
 
@@ -331,7 +331,7 @@ module _ (cs : List Held) (cap r : ℕ) (sound : AreAtOneRank cap cs) (there : r
   saw = cache_map cs cap
 
   goes_so : (x : Leaf × Place) → IsOwn had.entries x → goes saw r stay x.0 ≡ may_go stay x
-  goes_so x is = ap (λ (o : Option Cached). clean_in o && not (stays stay x.0)) (sym (each_at cs cap r sound there r x.0) ∙ ap (λ (o : Option Place). fragment_in o) is) ∙ ap (λ b. b && not (stays stay x.0)) (go x.1.kept)
+  goes_so x is = ap (λ (o : Option Cached). clean_in o && not (is_to_stay stay x.0)) (sym (each_at cs cap r sound there r x.0) ∙ ap (λ (o : Option Place). fragment_in o) is) ∙ ap (λ b. b && not (is_to_stay stay x.0)) (go x.1.kept)
     where
       go : (k : Bool) → clean_in (cond k None (Some x.1.frag)) ≡ (not k && is_clean x.1.frag)
       go true = refl
@@ -349,18 +349,18 @@ module _ (cs : List Held) (cap r : ℕ) (sound : AreAtOneRank cap cs) (there : r
   evicted_so now is = go (last_by (may_go stay) had.entries) refl is
     where
       go : (o : Option (Leaf × Place)) → last_by (may_go stay) had.entries ≡ o → option_map (λ (e : Leaf × Place). without e.0 had) o ≡ Some now → (evicted saw r stay ≡ Some (cache_map (set cs r now) cap)) × AreAtOneRank cap (set cs r now)
-      go None at is = let clash : None ≡ Some now = is in absurd cc
-      go (Some e) at is =
+      go None lies_by is = let clash : None ≡ Some now = is in absurd cc
+      go (Some e) lies_by is =
           let one : without e.0 had ≡ now = cc in
           let up = given_up_so cs cap r sound there now e.0 (sym one) in
-          (ap (option_map (given_up saw r)) (victim_is ∙ ap (option_map (λ (e : Leaf × Place). e.0)) at) ∙ ap (λ (c : CacheMap). Some c) (sym up.0), up.1)
+          (ap (option_map (given_up saw r)) (victim_is ∙ ap (option_map (λ (e : Leaf × Place). e.0)) lies_by) ∙ ap (λ (c : CacheMap). Some c) (sym up.0), up.1)
 
   pub none_evicted : dropped stay had ≡ None → evicted saw r stay ≡ None
   none_evicted is = go (last_by (may_go stay) had.entries) refl is
     where
       go : (o : Option (Leaf × Place)) → last_by (may_go stay) had.entries ≡ o → option_map (λ (e : Leaf × Place). without e.0 had) o ≡ None → evicted saw r stay ≡ None
-      go None at is = ap (option_map (given_up saw r)) (victim_is ∙ ap (option_map (λ (e : Leaf × Place). e.0)) at)
-      go (Some e) at is = let clash : Some (without e.0 had) ≡ None = is in absurd cc
+      go None lies_by is = ap (option_map (given_up saw r)) (victim_is ∙ ap (option_map (λ (e : Leaf × Place). e.0)) lies_by)
+      go (Some e) lies_by is = let clash : Some (without e.0 had) ≡ None = is in absurd cc
 
   full_so : nat_lt (length (order saw r)) cap ≡ nat_lt (length had.entries) had.cap
   full_so = ap (λ (n : ℕ). nat_lt n cap) (ap (λ (ks : List Leaf). length ks) (order_is cs cap r sound there) ∙ length-keys_of had.entries) ∙ ap (nat_lt (length had.entries)) (sym (sound.each r there))

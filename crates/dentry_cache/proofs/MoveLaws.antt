@@ -7,7 +7,7 @@ use Rattle.sorted_map.proofs.NatKeys.{is_apart, is_same, same_or_apart}
 use Rattle.cached_frag.specs.Cached.{Cached, imported}
 use Rattle.dentry_cache.specs.Cache.{Leaf, leaf_is}
 use Rattle.dentry_cache.specs.CacheCalls.{unclean_in}
-use Rattle.dentry_cache.specs.CacheMap.{At, CacheMap, IsFree, at, at_rank, given_up, has_place, here, less, order, removed, with_frag}
+use Rattle.dentry_cache.specs.CacheMap.{At, CacheMap, IsFree, lies_by, at_rank, given_up, has_place, here, less, order, removed, with_frag}
 use Rattle.dentry_cache.specs.Handing.{moved, moved_all, moved_as, without_all}
 use Rattle.dentry_cache.proofs.LeafLaws.{leaf_itself, one_leaf}
 use Rattle.dentry_cache.proofs.MapLaws.{at_other, here_free}
@@ -68,15 +68,15 @@ module _ (c : CacheMap) (from to : ℕ) (leaf : Leaf) where
 -- a rank's fragment is at another
 abbrev pub sent : ℕ → ℕ → Option At → Option At
 sent from to None = None
-sent from to (Some a) = cond (a.rank == from) (Some (at to (imported a.frag))) (Some a)
+sent from to (Some a) = cond (a.rank == from) (Some (lies_by to (imported a.frag))) (Some a)
 
 sent_again : (from to : ℕ) → from ≢ to → (o : Option At) → sent from to (sent from to o) ≡ sent from to o
 sent_again from to apart None = refl
 sent_again from to apart (Some a) = go (a.rank == from) refl
   where
-    go : (b : Bool) → (a.rank == from) ≡ b → sent from to (cond b (Some (at to (imported a.frag))) (Some a)) ≡ cond b (Some (at to (imported a.frag))) (Some a)
-    go true same = ap (λ b. cond b (Some (at to (imported (imported a.frag)))) (Some (at to (imported a.frag)))) (is_apart to from (λ (e : to ≡ from). apart (sym e)))
-    go false differs = ap (λ b. cond b (Some (at to (imported a.frag))) (Some a)) differs
+    go : (b : Bool) → (a.rank == from) ≡ b → sent from to (cond b (Some (lies_by to (imported a.frag))) (Some a)) ≡ cond b (Some (lies_by to (imported a.frag))) (Some a)
+    go true same = ap (λ b. cond b (Some (lies_by to (imported (imported a.frag)))) (Some (lies_by to (imported a.frag)))) (is_apart to from (λ (e : to ≡ from). apart (sym e)))
+    go false differs = ap (λ b. cond b (Some (lies_by to (imported a.frag))) (Some a)) differs
 
 -- none of it is left at a rank
 abbrev pub left_by : ℕ → Option At → Option At
@@ -123,7 +123,7 @@ module _ (c : CacheMap) (r : ℕ) (leaf q : Leaf) where
       none_sent None none = refl
       none_sent (Some a) none = on (a.rank == r) none
         where
-          on : (b : Bool) → cond b (Some a.frag) None ≡ None → cond b None (Some a) ≡ cond b (Some (at to (imported a.frag))) (Some a)
+          on : (b : Bool) → cond b (Some a.frag) None ≡ None → cond b None (Some a) ≡ cond b (Some (lies_by to (imported a.frag))) (Some a)
           on true none = let clash : Some a.frag ≡ None = none in absurd cc
           on false none = refl
 
@@ -132,11 +132,11 @@ module _ (c : CacheMap) (r : ℕ) (leaf q : Leaf) where
           ap (λ (k : CacheMap). finmap.get k.held q) (moved_none c r to leaf seen) ∙ given_up_at
           ∙ ap (λ (o : Option At). cond (leaf_is q leaf) o (finmap.get c.held q)) (none_sent (finmap.get c.held leaf) seen)
       go (Some f) seen =
-          let there : finmap.get c.held leaf ≡ Some (at r f) = here_is r (finmap.get c.held leaf) f seen in
+          let there : finmap.get c.held leaf ≡ Some (lies_by r f) = here_is r (finmap.get c.held leaf) f seen in
           ap (λ (k : CacheMap). finmap.get k.held q) (moved_some c r to leaf f seen) ∙ get_with_frag (given_up c r leaf) to leaf (imported f) q
-          ∙ ap (cond (leaf_is q leaf) (Some (at to (imported f)))) (get_given_up c r leaf q (here_free r (finmap.get c.held leaf) (ap (λ (o : Option Cached). is_some o) seen)))
-          ∙ twice (Some (at to (imported f))) (leaf_is q leaf)
-          ∙ ap (λ (o : Option At). cond (leaf_is q leaf) o (finmap.get c.held q)) (sym (ap (sent r to) there ∙ ap (λ b. cond b (Some (at to (imported f))) (Some (at r f))) (is_same r r refl)))
+          ∙ ap (cond (leaf_is q leaf) (Some (lies_by to (imported f)))) (get_given_up c r leaf q (here_free r (finmap.get c.held leaf) (ap (λ (o : Option Cached). is_some o) seen)))
+          ∙ twice (Some (lies_by to (imported f))) (leaf_is q leaf)
+          ∙ ap (λ (o : Option At). cond (leaf_is q leaf) o (finmap.get c.held q)) (sym (ap (sent r to) there ∙ ap (λ b. cond b (Some (lies_by to (imported f))) (Some (lies_by r f))) (is_same r r refl)))
 
 -- a function that is its own twice, at each of these leaves
 again : (g : Option At → Option At) → ((o : Option At) → g (g o) ≡ g o) → (o : Option At) (t : Bool) → g (cond t (g o) o) ≡ g o

@@ -1,5 +1,5 @@
 -- Pages of pairs, read one after the other.
-use Rattle.dentry_cache.proofs.Common.{Bool, EndsPairs, Fragment, IsEndOf, Last, List, More, Names, Off, Option, PageEnd, PairMap, PairPage, Some, [], added, and_left, ap, are_good, arith, drop, entry_of, false, inl, inr, is_good, length, length-append, length-take-le, list_all-append, name_of, nat_lt, nat_tests, page_of, pages_make_up, pairs_after, refl, slice_get, subst, suc, sym, take, take-append-drop, take_all, true, with_entry, zero, ℕ, ◌&&◌, ◌++◌, ◌+◌, ◌-◌, ◌<◌, ◌∙◌, ◌∷◌, ◌≡◌, ◌≤◌, ◌⊎◌}
+use Rattle.dentry_cache.proofs.Common.{Bool, EndsPairs, Fragment, IsEndOf, Last, List, More, Names, Off, Option, PageEnd, PairMap, PairPage, Some, [], added, and_left, ap, are_good, arith, drop, inode_of_record, false, inl, inr, is_good, length, length-append, length-take-le, list_all-append, name_of_key, nat_lt, nat_tests, page_of, pages_make_up, pairs_after, refl, slice_get, subst, suc, sym, take, take-append-drop, take_all, true, with_pair, zero, ℕ, ◌&&◌, ◌++◌, ◌+◌, ◌-◌, ◌<◌, ◌∙◌, ◌∷◌, ◌≡◌, ◌≤◌, ◌⊎◌}
 use Rattle.std.specs.Option.{option_map}
 use Rattle.dentry_cache.proofs.Common.{None, same_Some}
 use Rattle.objstore.specs.Omap.{Omap}
@@ -8,7 +8,7 @@ use Rattle.dentry_cache.proofs.CallLaws.{last_here, more_behind, off_here}
 
 added_split : (names : Names) (a b : List (List ℕ × List ℕ)) → added names (a ++ b) ≡ added (added names a) b
 added_split names [] b = refl
-added_split names (pair ∷ a) b = added_split (with_entry names (name_of pair.0) (entry_of pair.1)) a b
+added_split names (pair ∷ a) b = added_split (with_pair names (name_of_key pair.0) (inode_of_record pair.1)) a b
 
 left_true : (a b : Bool) → a ≡ true → (a && b) ≡ b
 left_true true b is = refl

@@ -1,5 +1,5 @@
 -- The children of a fragment: made one after the other, with room for their names, and taking them.
-use Rattle.dentry_cache.proofs.Common.{AreChildren, AreNumbered, AreReady, Bool, Cached, Each, EachThen, Fragment, Fresh, Grows, Inode, IsBare, IsChild, IsReady, List, Mark, Names, None, Option, Part, Puts, Row, Some, [], ap, arith, bare, child_of, cond, dirty_step, false, filter, get-empty, hash_of, holds, key_cmp, length, marked_as, names_in, nothing_shown, one_map, refl, shown, shown_as, shown_step, slice_index_or, suc, sym, true, zero, ℕ, ◌++◌, ◌+◌, ◌-◌, ◌<◌, ◌^◌, ◌∙◌, ◌∷◌, ◌≡◌, ◌≤◌}
+use Rattle.dentry_cache.proofs.Common.{AreChildren, AreNumbered, AreReady, Bool, Cached, Each, EachThen, Fragment, Fresh, Grows, Inode, IsBare, IsCachedChild, IsReadyPart, List, Mark, Names, None, Option, Part, Puts, NamedInode, Some, [], ap, arith, bare, child_of, cond, dirty_step, false, filter, get-empty, hash_of, holds, key_cmp, length, marked_as, names_in, nothing_shown, one_map, refl, shown_names, shown_as, shown_step, slice_index_or, suc, sym, true, zero, ℕ, ◌++◌, ◌+◌, ◌-◌, ◌<◌, ◌^◌, ◌∙◌, ◌∷◌, ◌≡◌, ◌≤◌}
 use Rattle.std.specs.FinMap as map
 use Rattle.dentry_cache.proofs.NameParts.{empty_in, held_in, len_in, len_removed, removed_beside, removed_in}
 
@@ -23,30 +23,30 @@ bare_here frag nb generation i n m child f place is number made =
 -- ---- room for each name
 
 -- how many of these rows a fragment contains
-abbrev pub count_in : Fragment → List Row → ℕ
-count_in frag rows = length (filter (λ (row : Row). holds frag (hash_of row.0)) rows)
+abbrev pub count_in : Fragment → List NamedInode → ℕ
+count_in frag rows = length (filter (λ (row : NamedInode). holds frag (hash_of row.0)) rows)
 
 -- a child with room for those that were passed
-pub record IsRoomy (frag : Fragment) (nb generation : ℕ) (all left : List Row) (i : ℕ) (part : Part) : Type 0 where
+pub record IsRoomy (frag : Fragment) (nb generation : ℕ) (all left : List NamedInode) (i : ℕ) (part : Part) : Type 0 where
   pub child : part.frag ≡ child_of frag i nb
   pub none : part.fragment ≡ bare (generation + i) part.fragment.room
   pub room : count_in (child_of frag i nb) all ≤ part.fragment.room + count_in (child_of frag i nb) left
 
-pub first_roomy : (frag : Fragment) (nb generation : ℕ) (all left : List Row) (i : ℕ) (part : Part) → left ≡ all → IsBare frag nb generation i part → IsRoomy frag nb generation all left i part
+pub first_roomy : (frag : Fragment) (nb generation : ℕ) (all left : List NamedInode) (i : ℕ) (part : Part) → left ≡ all → IsBare frag nb generation i part → IsRoomy frag nb generation all left i part
 first_roomy frag nb generation all left i part is b =
     let same : count_in (child_of frag i nb) left ≡ count_in (child_of frag i nb) all = ap (count_in (child_of frag i nb)) is in
     record { child = b.child; none = b.none; room = omega (arith, same) }
 
-counted : (b : Bool) (rest : ℕ) (row : Row) (rows : List Row) → length rows ≡ rest → length (cond b (row ∷ rows) rows) ≡ cond b 1 0 + rest
+counted : (b : Bool) (rest : ℕ) (row : NamedInode) (rows : List NamedInode) → length rows ≡ rest → length (cond b (row ∷ rows) rows) ≡ cond b 1 0 + rest
 counted true rest row rows is = omega (arith, is)
 counted false rest row rows is = omega (arith, is)
 
-pub roomy_step : (frag : Fragment) (nb generation : ℕ) (all left rest : List Row) (row : Row) (i : ℕ) (old now : Part) (here : Bool) → left ≡ row ∷ rest → holds (child_of frag i nb) (hash_of row.0) ≡ here → Grows here old now
+pub roomy_step : (frag : Fragment) (nb generation : ℕ) (all left rest : List NamedInode) (row : NamedInode) (i : ℕ) (old now : Part) (here : Bool) → left ≡ row ∷ rest → holds (child_of frag i nb) (hash_of row.0) ≡ here → Grows here old now
     → IsRoomy frag nb generation all left i old → IsRoomy frag nb generation all rest i now
 roomy_step frag nb generation all left rest row i old now here is holds_it grows r =
     let child : Fragment = child_of frag i nb in
     let passed : count_in child left ≡ cond {A = ℕ} here 1 0 + count_in child rest =
-    ap (count_in child) is ∙ counted (holds child (hash_of row.0)) (count_in child rest) row (filter (λ (row : Row). holds child (hash_of row.0)) rest) refl ∙ ap (λ (b : Bool). cond {A = ℕ} b 1 0 + count_in child rest) holds_it in
+    ap (count_in child) is ∙ counted (holds child (hash_of row.0)) (count_in child rest) row (filter (λ (row : NamedInode). holds child (hash_of row.0)) rest) refl ∙ ap (λ (b : Bool). cond {A = ℕ} b 1 0 + count_in child rest) holds_it in
     let generation_is : now.fragment.generation ≡ generation + i = ap (λ (f : Cached). f.generation) grows.same ∙ ap (λ (f : Cached). f.generation) r.none in
     record {
       child = grows.frag ∙ r.child;
@@ -55,11 +55,11 @@ roomy_step frag nb generation all left rest row i old now here is holds_it grows
     }
 
 -- so once all were passed
-module _ (frag : Fragment) (nb generation : ℕ) (names : Names) (left : List Row) (parts : List Part) (none : left ≡ []) (each : Each (IsRoomy frag nb generation (map.entries names) left) parts) where
+module _ (frag : Fragment) (nb generation : ℕ) (names : Names) (left : List NamedInode) (parts : List Part) (none : left ≡ []) (each : Each (IsRoomy frag nb generation (map.entries names) left) parts) where
   pub ready : length parts ≡ 2 ^ nb → AreReady frag nb names parts
   ready count = record { count = count; each = λ i d within. go i d (each i d within) }
     where
-      go : (i : ℕ) (d : Part) → IsRoomy frag nb generation (map.entries names) left i (slice_index_or parts i d) → IsReady frag nb names i (slice_index_or parts i d)
+      go : (i : ℕ) (d : Part) → IsRoomy frag nb generation (map.entries names) left i (slice_index_or parts i d) → IsReadyPart frag nb names i (slice_index_or parts i d)
       go i d r =
           let part : Part = slice_index_or parts i d in
           let number : part.fragment.generation ≡ generation + i = ap (λ (f : Cached). f.generation) r.none in
@@ -82,17 +82,17 @@ pub record IsFilling (frag : Fragment) (nb : ℕ) (names left : Names) (version 
   pub base : part.fragment.base ≡ Fresh
   pub number : part.fragment.generation ≡ was.fragment.generation
   pub dirty : (q : List ℕ) → marked_as version (map.get (names_in (child_of frag i nb) left) q) (map.get part.fragment.dirty q) ≡ marked_as version (map.get (names_in (child_of frag i nb) names) q) None
-  pub shows : (q : List ℕ) → shown_as (map.get (names_in (child_of frag i nb) left) q) (map.get (shown part.fragment) q) ≡ shown_as (map.get (names_in (child_of frag i nb) names) q) None
+  pub shows : (q : List ℕ) → shown_as (map.get (names_in (child_of frag i nb) left) q) (map.get (shown_names part.fragment) q) ≡ shown_as (map.get (names_in (child_of frag i nb) names) q) None
   pub room : map.len (names_in (child_of frag i nb) left) ≤ part.fragment.room
 
-pub first_filling : (frag : Fragment) (nb : ℕ) (names : Names) (version i : ℕ) (part : Part) → IsReady frag nb names i part → IsFilling frag nb names names version i part part
+pub first_filling : (frag : Fragment) (nb : ℕ) (names : Names) (version i : ℕ) (part : Part) → IsReadyPart frag nb names i part → IsFilling frag nb names names version i part part
 first_filling frag nb names version i part r =
     record {
       child = r.child;
       base = ap (λ (f : Cached). f.base) r.none;
       number = refl;
       dirty = λ q. ap (marked_as version (map.get (names_in (child_of frag i nb) names) q)) (ap (λ (f : Cached). map.get f.dirty q) r.none ∙ get-empty key_cmp q);
-      shows = λ q. ap (shown_as (map.get (names_in (child_of frag i nb) names) q)) (ap (λ (f : Cached). map.get (shown f) q) r.none ∙ ap (λ (n : Names). map.get n q) (nothing_shown map.empty refl) ∙ get-empty key_cmp q);
+      shows = λ q. ap (shown_as (map.get (names_in (child_of frag i nb) names) q)) (ap (λ (f : Cached). map.get (shown_names f) q) r.none ∙ ap (λ (n : Names). map.get n q) (nothing_shown map.empty refl) ∙ get-empty key_cmp q);
       room = r.room;
     }
 
@@ -135,7 +135,7 @@ module _ (frag : Fragment) (nb : ℕ) (names left rest : Names) (pair : List ℕ
         base = ap (λ (p : Part). p.fragment.base) put ∙ f.base;
         number = ap (λ (p : Part). p.fragment.generation) put ∙ f.number;
         dirty = λ q. (λ j. marked_as version (map.get (same j) q) (map.get (put j).fragment.dirty q)) ∙ f.dirty q;
-        shows = λ q. (λ j. shown_as (map.get (same j) q) (map.get (shown (put j).fragment) q)) ∙ f.shows q;
+        shows = λ q. (λ j. shown_as (map.get (same j) q) (map.get (shown_names (put j).fragment) q)) ∙ f.shows q;
         room = omega (arith, fewer, room, f.room);
       }
 
@@ -145,13 +145,13 @@ shown_or (Some inode) = refl
 shown_or None = refl
 
 pub filled_child : (frag : Fragment) (nb : ℕ) (names left : Names) (version i : ℕ) (was part : Part) → ((q : List ℕ) → map.get left q ≡ None) → IsFilling frag nb names left version i was part
-    → IsChild (child_of frag i nb) names was.fragment.generation version part.fragment
+    → IsCachedChild (child_of frag i nb) names was.fragment.generation version part.fragment
 filled_child frag nb names left version i was part none f =
     let child : Fragment = child_of frag i nb in
     record {
       fresh = f.base;
       numbered = f.number;
-      shows = one_map _ _ (λ q. sym (ap (λ (o : Option Inode). shown_as o (map.get (shown part.fragment) q)) (empty_in child left none q)) ∙ f.shows q ∙ shown_or (map.get (names_in child names) q));
+      shows = one_map _ _ (λ q. sym (ap (λ (o : Option Inode). shown_as o (map.get (shown_names part.fragment) q)) (empty_in child left none q)) ∙ f.shows q ∙ shown_or (map.get (names_in child names) q));
       dirty = λ q. sym (ap (λ (o : Option Inode). marked_as version o (map.get part.fragment.dirty q)) (empty_in child left none q)) ∙ f.dirty q;
     }
 

@@ -1,5 +1,5 @@
 -- A split at a rank: what is made ready for it, and what it leaves.
-use Rattle.dentry_cache.proofs.Common.{AreAbsent, AreApart, AreChildren, AreFillable, AreKept, Bool, CacheMap, Cached, Fragment, HasCached, Ino, IsButPlaces, IsChildAt, IsFamilyAt, IsKeptFor, IsRewritten, Leaf, List, Names, None, Objects, Option, Part, Reads, Rewrites, Some, SplitsAt, [], ap, arith, child_of, cond, false, given_up, has_place, here, inl, is_same, leaf_is, length, refl, rewritten, shown, slice_index_or, subst, suc, sym, true, with_frag, with_parts, ℕ, ◌&&◌, ◌+◌, ◌<◌, ◌==◌, ◌^◌, ◌∙◌, ◌∷◌, ◌≡◌, ◌≤◌}
+use Rattle.dentry_cache.proofs.Common.{AreAbsent, AreKeptApart, AreChildren, AreFillable, HaveKeptPlaces, Bool, CacheMap, Cached, Fragment, HasCached, Ino, IsButPlaces, IsChildAt, IsFamilyAt, IsKeptFor, IsRewritten, Leaf, List, Names, None, Objects, Option, Part, Reads, Rewrites, Some, SplitsAt, [], ap, arith, child_of, cond, false, given_up, has_place, here, inl, is_same, leaf_is, length, refl, rewritten, shown_names, slice_index_or, subst, suc, sym, true, with_frag, with_parts, ℕ, ◌&&◌, ◌+◌, ◌<◌, ◌==◌, ◌^◌, ◌∙◌, ◌∷◌, ◌≡◌, ◌≤◌}
 use Rattle.std.specs.FinMap as finmap
 use Rattle.dentry_cache.specs.Reads.Reads.{stays as it_stays}
 use Rattle.dentry_cache.proofs.LacksLaws.{still_left}
@@ -54,7 +54,7 @@ kept_beside c r leaf q f there apart kept = (
 pub fillable_with : (c : CacheMap) (r : ℕ) (dir : Ino) (part : Part) (parts : List Part) → r < length c.used → AreFillable r dir (part ∷ parts) c → AreFillable r dir parts (with_frag c r (dir, part.frag) part.fragment)
 fillable_with c r dir part parts there f = go parts f.1 f.2
   where
-    go : (rest : List Part) → AreApart (dir, part.frag) dir rest → AreFillable r dir rest c → AreFillable r dir rest (with_frag c r (dir, part.frag) part.fragment)
+    go : (rest : List Part) → AreKeptApart (dir, part.frag) dir rest → AreFillable r dir rest c → AreFillable r dir rest (with_frag c r (dir, part.frag) part.fragment)
     go [] apart f = tt
     go (x ∷ rest) apart f = (kept_beside c r (dir, part.frag) (dir, x.frag) part.fragment there (flips (dir, x.frag) (dir, part.frag) ∙ apart.0) f.0, f.1, go rest apart.1 f.2)
 
@@ -66,7 +66,7 @@ fillable_from r dir frag bits n (part ∷ parts) c are kept =
     let first : part.frag ≡ child_of frag (n + 0) bits = are 0 part (omega arith) in
     let rest : (i : ℕ) (d : Part) → i < length parts → (slice_index_or parts i d).frag ≡ child_of frag (n + 1 + i) bits = λ i d within. are (suc i) d (omega (arith, within)) ∙ next i in (
       subst (λ (f : Fragment). IsKeptFor c r (dir, f)) (sym first) (kept 0 (omega arith)),
-      subst (λ (f : Fragment). AreApart (dir, f) dir parts) (sym first) (apart_from (dir, child_of frag (n + 0) bits) dir frag bits (n + 1) parts rest (λ i within. one_child dir frag bits (n + 0) (n + 1 + i) (λ same. omega (arith, same)))),
+      subst (λ (f : Fragment). AreKeptApart (dir, f) dir parts) (sym first) (apart_from (dir, child_of frag (n + 0) bits) dir frag bits (n + 1) parts rest (λ i within. one_child dir frag bits (n + 0) (n + 1 + i) (λ same. omega (arith, same)))),
       fillable_from r dir frag bits (n + 1) parts c rest (λ i within. subst (λ (f : Fragment). IsKeptFor c r (dir, f)) (next i) (kept (suc i) (omega (arith, within)))),
     )
   where
@@ -74,7 +74,7 @@ fillable_from r dir frag bits n (part ∷ parts) c are kept =
     next i = let same : n + suc i ≡ n + 1 + i = omega arith in ap (λ (m : ℕ). child_of frag m bits) same
 
 module _ (r : ℕ) (dir : Ino) (frag : Fragment) (bits version : ℕ) (names : Names) (ready made : List Part) (old : CacheMap) (some : 1 ≤ bits) (count : length ready ≡ 2 ^ bits) (d : AreChildren frag bits names version ready made)
-    (kept : AreKept old r dir frag bits) where
+    (kept : HaveKeptPlaces old r dir frag bits) where
   -- each child is the one at its place
   pub at_its_place : (i : ℕ) (e : Part) → i < length made → (slice_index_or made i e).frag ≡ child_of frag (0 + i) bits
   at_its_place i e within = let same : i ≡ 0 + i = omega arith in d.child i e within ∙ ap (λ (k : ℕ). child_of frag k bits) same
@@ -92,7 +92,7 @@ module _ (r : ℕ) (dir : Ino) (frag : Fragment) (bits version : ℕ) (names : N
 
 -- ---- of the fragment that was there
 
-pub split_so : (r : ℕ) (dir : Ino) (frag : Fragment) (bits : ℕ) (parts made : List Part) (version : ℕ) (names : Names) (old new : CacheMap) (o : Option Cached) → HasCached o (λ (f : Cached). names ≡ shown f) → AreChildren frag bits names version parts made
+pub split_so : (r : ℕ) (dir : Ino) (frag : Fragment) (bits : ℕ) (parts made : List Part) (version : ℕ) (names : Names) (old new : CacheMap) (o : Option Cached) → HasCached o (λ (f : Cached). names ≡ shown_names f) → AreChildren frag bits names version parts made
     → new ≡ with_parts dir r made (given_up old r (dir, frag)) → HasCached o (SplitsAt r dir frag bits parts version old new)
 split_so r dir frag bits parts made version names old new None is d done = absurd is
 split_so r dir frag bits parts made version names old new (Some f) is d done = (made, subst (λ (n : Names). AreChildren frag bits n version parts made) is d, done)

@@ -6,7 +6,7 @@ use Rattle.objstore.specs.Objects.{Objects}
 use Rattle.cached_frag.specs.Cached.{Cached}
 use Rattle.dentry_cache.specs.Cache.{Leaf, leaf_is, unsaved_in}
 use Rattle.dentry_cache.specs.CacheCalls.{FetchesAt, IsRewritten, KeepsAt, MakesRoomAt, Rewrites}
-use Rattle.dentry_cache.specs.CacheMap.{At, CacheMap, at, at_rank, has_place, here, rewritten, unclean, unsaved_at, used_at, with_frag}
+use Rattle.dentry_cache.specs.CacheMap.{At, CacheMap, lies_by, at_rank, has_place, here, rewritten, unclean, unsaved_at, used_at, with_frag}
 use Rattle.dentry_cache.specs.Came.{Came, StaysNamed}
 use Rattle.dentry_cache.specs.Came.Came.{stays as came_stays, uses as came_uses, has as came_has, alters as came_alters, room as came_room, ends as came_ends}
 use Rattle.dentry_cache.specs.Loading.{object_of}
@@ -40,18 +40,18 @@ pub room_unsaved : (f now : Cached) → IsButRoom f now → unsaved_in (Some now
 room_unsaved f now is = ap (λ (k : Cached). unsaved_in (Some k)) is
 
 -- a rank that has a fragment of a leaf has it in the map
-pub here_is : (r : ℕ) (o : Option At) (f : Cached) → at_rank r o ≡ Some f → o ≡ Some (at r f)
+pub here_is : (r : ℕ) (o : Option At) (f : Cached) → at_rank r o ≡ Some f → o ≡ Some (lies_by r f)
 here_is r None f is = let clash : None ≡ Some f = is in absurd cc
 here_is r (Some a) f is = go (same_or_apart a.rank r)
   where
-    go : (a.rank ≡ r) ⊎ (a.rank ≡ r → ⊥) → Some a ≡ Some (at r f)
+    go : (a.rank ≡ r) ⊎ (a.rank ≡ r → ⊥) → Some a ≡ Some (lies_by r f)
     go (inl same) =
         let one : a.frag ≡ f = same_Some a.frag f (sym (ap (λ b. cond b (Some a.frag) None) (is_same a.rank r same)) ∙ is) in
         λ i. Some (record { rank = same i; frag = one i })
     go (inr apart) = let clash : None ≡ Some f = sym (ap (λ b. cond b (Some a.frag) None) (is_apart a.rank r apart)) ∙ is in absurd cc
 
 -- what was read has other room then
-pub read_more : (Uses : ℕ → Leaf → Type 0) (objects : Objects) (q : Leaf) (was : Option At) (a : At) (now : Cached) → IsReadOf Uses objects q was a → IsButRoom a.frag now → IsReadOf Uses objects q was (at a.rank now)
+pub read_more : (Uses : ℕ → Leaf → Type 0) (objects : Objects) (q : Leaf) (was : Option At) (a : At) (now : Cached) → IsReadOf Uses objects q was a → IsButRoom a.frag now → IsReadOf Uses objects q was (lies_by a.rank now)
 read_more Uses objects q was a now (inl of) more = inl (of.0, of.1, room_twice of.0 a.frag now of.2 more)
 read_more Uses objects q was a now (inr of) more = inr (of.0, of.1, of.2, room_twice of.1 a.frag now of.3 more)
 
@@ -117,19 +117,19 @@ module _ (Uses Ends : ℕ → Leaf → Type 0) (objects : Objects) (old : CacheM
   reads_held _ (uses mid r leaf before named) q a is = reads_held mid before q a is
   reads_held _ (grows mid r leaf f now before named seen same) q a is = go (λ b was. reads_held mid before q b was) (leaf_is q leaf) refl (sym (get_with_frag mid r leaf now q) ∙ is)
     where
-      go : ((b : At) → finmap.get mid.held q ≡ Some b → IsReadOf Uses objects q (finmap.get old.held q) b) → (b : Bool) → leaf_is q leaf ≡ b → cond b (Some (at r now)) (finmap.get mid.held q) ≡ Some a
+      go : ((b : At) → finmap.get mid.held q ≡ Some b → IsReadOf Uses objects q (finmap.get old.held q) b) → (b : Bool) → leaf_is q leaf ≡ b → cond b (Some (lies_by r now)) (finmap.get mid.held q) ≡ Some a
           → IsReadOf Uses objects q (finmap.get old.held q) a
       go rest true one is =
-          subst (IsReadOf Uses objects q (finmap.get old.held q)) (same_Some (at r now) a is)
-          (read_more Uses objects q (finmap.get old.held q) (at r f) now (rest (at r f) (ap (finmap.get mid.held) (one_leaf q leaf one) ∙ here_is r (finmap.get mid.held leaf) f seen)) same)
+          subst (IsReadOf Uses objects q (finmap.get old.held q)) (same_Some (lies_by r now) a is)
+          (read_more Uses objects q (finmap.get old.held q) (lies_by r f) now (rest (lies_by r f) (ap (finmap.get mid.held) (one_leaf q leaf one) ∙ here_is r (finmap.get mid.held leaf) f seen)) same)
       go rest false one is = rest a is
   reads_held _ (loads mid r leaf f before named none spelt) q a is = go (λ was. reads_held mid before q a was) (leaf_is q leaf) refl (sym (get_with_frag mid r leaf f q) ∙ is)
     where
-      go : (finmap.get mid.held q ≡ Some a → IsReadOf Uses objects q (finmap.get old.held q) a) → (b : Bool) → leaf_is q leaf ≡ b → cond b (Some (at r f)) (finmap.get mid.held q) ≡ Some a
+      go : (finmap.get mid.held q ≡ Some a → IsReadOf Uses objects q (finmap.get old.held q) a) → (b : Bool) → leaf_is q leaf ≡ b → cond b (Some (lies_by r f)) (finmap.get mid.held q) ≡ Some a
           → IsReadOf Uses objects q (finmap.get old.held q) a
       go rest true one is =
-          subst (IsReadOf Uses objects q (finmap.get old.held q)) (same_Some (at r f) a is)
-          (subst (λ (l : Leaf). IsReadOf Uses objects l (finmap.get old.held q) (at r f)) (sym (one_leaf q leaf one)) (inr (named, f, spelt, room_itself f)))
+          subst (IsReadOf Uses objects q (finmap.get old.held q)) (same_Some (lies_by r f) a is)
+          (subst (λ (l : Leaf). IsReadOf Uses objects l (finmap.get old.held q) (lies_by r f)) (sym (one_leaf q leaf one)) (inr (named, f, spelt, room_itself f)))
       go rest false one is = rest is
   reads_held _ (room mid new r leaf stay before named none kept is) q a there = reads_held mid before q a (held_roomy mid new r stay q a is there)
   reads_held _ (frees mid r leaf before named none) q a is = reads_held mid before q a (held_given_up mid r leaf q a is)

@@ -6,9 +6,9 @@ use Rattle.std.specs.List.{AllByRecursion, IsDistinct, list_any}
 use Rattle.mds_types.specs.declared.refusals.Refusal.{Refusal}
 use Rattle.mds_types.specs.declared.refusals.Refusal.TheVariants.{NoMemory, NothingToEvict}
 use Rattle.cached_frag.specs.Cached.{Cached, is_clean}
-use Rattle.dentry_cache.specs.Cache.{Leaf, leaf_is, stays}
+use Rattle.dentry_cache.specs.Cache.{Leaf, leaf_is, is_to_stay}
 use Rattle.dentry_cache.specs.CacheCalls.{CanKeep, CanNotKeep, IsRefusedAt, MayNotKeepAt, Rewrites, going_at, kept_at, unclean_at, unclean_in}
-use Rattle.dentry_cache.specs.CacheMap.{AreCaches, CacheMap, at_rank, clean_in, first, given_up, goes, here, last_by, less, or_this, order, rewritten, roomy, used_at, victim}
+use Rattle.dentry_cache.specs.CacheMap.{AreCaches, CacheMap, at_rank, clean_in, moved_first, given_up, goes, here, last_by, less, or_this, order, rewritten, roomy, used_at, victim}
 use Rattle.dentry_cache.specs.CacheSplits.{IsButPlaces}
 use Rattle.dentry_cache.proofs.CountLaws.{none_last, none_passes, stays_once}
 use Rattle.dentry_cache.proofs.KeptLaws.{less_apart, order_given_up, order_used, same_filter}
@@ -137,7 +137,7 @@ module _ (c : CacheMap) (r : ℕ) (stay : Option Leaf) (there : r < length c.use
         where
           each : (xs : List Leaf) → AllByRecursion (λ (x : Leaf). leaf_is v x ≡ false) xs → AllByRecursion (λ (x : Leaf). goes (given_up c r v) r stay x ≡ goes c r stay x) xs
           each [] apart = tt
-          each (x ∷ xs) apart = (ap (λ o. clean_in (at_rank r o) && not (stays stay x)) (get_beside c r v x (flips x v ∙ apart.0)), each xs apart.1)
+          each (x ∷ xs) apart = (ap (λ o. clean_in (at_rank r o) && not (is_to_stay stay x)) (get_beside c r v x (flips x v ∙ apart.0)), each xs apart.1)
 
       go : (b : Bool) (v : Option Leaf) → victim c r stay ≡ v → cond b (Some c) (option_map (given_up c r) v) ≡ Some mid → CanKeepOn n count mid r stay
       go true v seen is = subst (λ (k : CacheMap). CanKeepOn n count k r stay) (same_Some c mid is) can
@@ -149,8 +149,8 @@ module _ (c : CacheMap) (r : ℕ) (stay : Option Leaf) (there : r < length c.use
   kept_left leaf =
       let few = few_less leaf (order c r) in
       let size : length (order (used_at c r leaf) r) ≡ suc (length (less leaf (order c r))) = ap (λ (xs : List Leaf). length xs) (order_used c r there leaf) in
-      let going : length (going_at (used_at c r leaf) r stay) ≡ length (filter (goes c r stay) (first leaf (order c r))) = ap (λ (xs : List Leaf). length (filter (goes c r stay) xs)) (order_used c r there leaf) in
-      let front : length (filter (goes c r stay) (first leaf (order c r))) ≡ one_if (goes c r stay leaf) + length (filter (goes c r stay) (less leaf (order c r))) = passing (goes c r stay) leaf (less leaf (order c r)) in
+      let going : length (going_at (used_at c r leaf) r stay) ≡ length (filter (goes c r stay) (moved_first leaf (order c r))) = ap (λ (xs : List Leaf). length (filter (goes c r stay) xs)) (order_used c r there leaf) in
+      let front : length (filter (goes c r stay) (moved_first leaf (order c r))) ≡ one_if (goes c r stay leaf) + length (filter (goes c r stay) (less leaf (order c r))) = passing (goes c r stay) leaf (less leaf (order c r)) in
       let left : length (going_at c r stay) ≤ one_if (goes c r stay leaf) + length (filter (goes c r stay) (less leaf (order c r))) = filter_left (goes c r stay) leaf (order c r) in
       omega (arith, few, size, going, front, left, can)
 
@@ -192,7 +192,7 @@ edit_can r leaf old mid e count can = by_rewrites r leaf IsButPlaces old mid e (
 -- where fewer can, each place but so many is that of a fragment that isn't clean, or kept, or that of the one that stays
 pub lacks_all : (count : ℕ) (c : CacheMap) (r : ℕ) (leaf : Leaf) → AreCaches c → CanNotKeep count c r (Some leaf) → c.cap < length (unclean_at c r) + length (kept_at c r) + count + 1
 lacks_all count c r leaf valid lacks =
-    let all = four (goes c r (Some leaf)) (λ (x : Leaf). unclean_in (here c r x)) (λ (x : Leaf). not (is_some (here c r x))) (stays (Some leaf)) (order c r) (λ x. on (here c r x) (leaf_is leaf x)) in
+    let all = four (goes c r (Some leaf)) (λ (x : Leaf). unclean_in (here c r x)) (λ (x : Leaf). not (is_some (here c r x))) (is_to_stay (Some leaf)) (order c r) (λ x. on (here c r x) (leaf_is leaf x)) in
     let once = stays_once (Some leaf) (order c r) (valid.distinct r) in
     omega (arith, lacks, all, once)
   where

@@ -8,16 +8,16 @@ use Rattle.mds_types.specs.declared.ids.Ino.{Ino}
 use Rattle.mds_types.specs.Frag.{Fragment, child_of}
 use Rattle.cached_frag.specs.declared.bases.Base.{Base}
 use Rattle.cached_frag.specs.declared.bases.Base.TheVariants.{Fresh}
-use Rattle.cached_frag.specs.Cached.{Cached, is_clean_over, shown}
+use Rattle.cached_frag.specs.Cached.{Cached, is_clean_over, shown_names}
 use Rattle.dentry_cache.specs.declared.parts.Part.{Part}
 use Rattle.dentry_cache.specs.Cache.{HasCached, IsThere, Leaf, Unsaved, leaf_is, unsaved_in}
-use Rattle.dentry_cache.specs.CacheCalls.{IsWhole}
-use Rattle.dentry_cache.specs.CacheMap.{At, CacheMap, IsFree, IsFreeFor, at, at_rank, given_up, has_place, here, order, unclean, unsaved_at, with_frag}
-use Rattle.dentry_cache.specs.CacheSplits.{AreKept, IsChildAt, SplitsAt, with_parts}
+use Rattle.dentry_cache.specs.CacheCalls.{HasNoKeptPlace}
+use Rattle.dentry_cache.specs.CacheMap.{At, CacheMap, IsFree, IsFreeFor, lies_by, at_rank, given_up, has_place, here, order, unclean, unsaved_at, with_frag}
+use Rattle.dentry_cache.specs.CacheSplits.{HaveKeptPlaces, IsChildAt, SplitsAt, with_parts}
 use Rattle.dentry_cache.specs.Came.{Came}
 use Rattle.dentry_cache.specs.Came.Came.{has, ends}
-use Rattle.dentry_cache.specs.Divided.{IsChild, IsNoChild}
-use Rattle.dentry_cache.specs.Parting.{AreApart}
+use Rattle.dentry_cache.specs.Divided.{IsCachedChild, IsNoChild}
+use Rattle.dentry_cache.specs.Parting.{AreKeptApart}
 use Rattle.dentry_cache.proofs.NameParts.{no_child, one_child}
 use Rattle.dentry_cache.proofs.SplitShows.{apart_from}
 use Rattle.dentry_cache.proofs.StepLaws.{get_beside, get_given_up, get_with_frag, has_given_up, has_with_frag, placed_given_up, placed_used, ranks_given_up, ranks_with_frag}
@@ -32,14 +32,14 @@ ranks_with_parts dir r [] c = refl
 ranks_with_parts dir r (part ∷ parts) c = ranks_with_parts dir r parts (with_frag c r (dir, part.frag) part.fragment) ∙ ranks_with_frag c r (dir, part.frag) part.fragment
 
 -- any other leaf's fragment is where it was
-pub get_beside_parts : (dir : Ino) (r : ℕ) (parts : List Part) (c : CacheMap) (q : Leaf) → AreApart q dir parts → finmap.get (with_parts dir r parts c).held q ≡ finmap.get c.held q
+pub get_beside_parts : (dir : Ino) (r : ℕ) (parts : List Part) (c : CacheMap) (q : Leaf) → AreKeptApart q dir parts → finmap.get (with_parts dir r parts c).held q ≡ finmap.get c.held q
 get_beside_parts dir r [] c q apart = refl
 get_beside_parts dir r (part ∷ parts) c q apart =
     get_beside_parts dir r parts (with_frag c r (dir, part.frag) part.fragment) q apart.1
-    ∙ get_with_frag c r (dir, part.frag) part.fragment q ∙ ap (λ b. cond b (Some (at r part.fragment)) (finmap.get c.held q)) apart.0
+    ∙ get_with_frag c r (dir, part.frag) part.fragment q ∙ ap (λ b. cond b (Some (lies_by r part.fragment)) (finmap.get c.held q)) apart.0
 
 -- so is its place
-pub has_beside_parts : (dir : Ino) (r : ℕ) (parts : List Part) (c : CacheMap) (s : ℕ) (q : Leaf) → r < length c.used → AreApart q dir parts → has_place (with_parts dir r parts c) s q ≡ has_place c s q
+pub has_beside_parts : (dir : Ino) (r : ℕ) (parts : List Part) (c : CacheMap) (s : ℕ) (q : Leaf) → r < length c.used → AreKeptApart q dir parts → has_place (with_parts dir r parts c) s q ≡ has_place c s q
 has_beside_parts dir r [] c s q there apart = refl
 has_beside_parts dir r (part ∷ parts) c s q there apart =
     has_beside_parts dir r parts (with_frag c r (dir, part.frag) part.fragment) s q (subst (λ (n : ℕ). r < n) (sym (ranks_with_frag c r (dir, part.frag) part.fragment)) there) apart.1
@@ -65,15 +65,15 @@ placed_with_parts dir r (part ∷ parts) c old was kept s q is = placed_with_par
 -- no two of them are one leaf
 abbrev pub AreDifferent : Ino → List Part → Type 0
 AreDifferent dir [] = Unit {0}
-AreDifferent dir (part ∷ parts) = AreApart (dir, part.frag) dir parts × AreDifferent dir parts
+AreDifferent dir (part ∷ parts) = AreKeptApart (dir, part.frag) dir parts × AreDifferent dir parts
 
 -- each of them is there
 pub get_of_parts : (dir : Ino) (r : ℕ) (parts : List Part) (c : CacheMap) → AreDifferent dir parts → (i : ℕ) (d : Part) → i < length parts
-    → finmap.get (with_parts dir r parts c).held (dir, (slice_index_or parts i d).frag) ≡ Some (at r (slice_index_or parts i d).fragment)
+    → finmap.get (with_parts dir r parts c).held (dir, (slice_index_or parts i d).frag) ≡ Some (lies_by r (slice_index_or parts i d).fragment)
 get_of_parts dir r [] c different i d within = absurd (omega (arith, within))
 get_of_parts dir r (part ∷ parts) c different zero d within =
     get_beside_parts dir r parts (with_frag c r (dir, part.frag) part.fragment) (dir, part.frag) different.0
-    ∙ get_with_frag c r (dir, part.frag) part.fragment (dir, part.frag) ∙ ap (λ b. cond b (Some (at r part.fragment)) (finmap.get c.held (dir, part.frag))) (leaf_itself (dir, part.frag))
+    ∙ get_with_frag c r (dir, part.frag) part.fragment (dir, part.frag) ∙ ap (λ b. cond b (Some (lies_by r part.fragment)) (finmap.get c.held (dir, part.frag))) (leaf_itself (dir, part.frag))
 get_of_parts dir r (part ∷ parts) c different (suc i) d within = get_of_parts dir r parts (with_frag c r (dir, part.frag) part.fragment) different.1 i d (omega (arith, within))
 
 -- steps that bring them in
@@ -87,7 +87,7 @@ different_from dir frag bits n [] are = tt
 different_from dir frag bits n (part ∷ parts) are =
     let first : part.frag ≡ child_of frag (n + 0) bits = are 0 part (omega arith) in
     let rest : (i : ℕ) (d : Part) → i < length parts → (slice_index_or parts i d).frag ≡ child_of frag (n + 1 + i) bits = λ i d within. are (suc i) d (omega (arith, within)) ∙ next i in (
-      subst (λ (f : Fragment). AreApart (dir, f) dir parts) (sym first) (apart_from (dir, child_of frag (n + 0) bits) dir frag bits (n + 1) parts rest (λ i within. one_child dir frag bits (n + 0) (n + 1 + i) (λ same. omega (arith, same)))),
+      subst (λ (f : Fragment). AreKeptApart (dir, f) dir parts) (sym first) (apart_from (dir, child_of frag (n + 0) bits) dir frag bits (n + 1) parts rest (λ i within. one_child dir frag bits (n + 0) (n + 1 + i) (λ same. omega (arith, same)))),
       different_from dir frag bits (n + 1) parts rest,
     )
   where
@@ -134,22 +134,22 @@ module _ (r : ℕ) (dir : Ino) (frag : Fragment) (bits : ℕ) (parts : List Part
   split_ranks = ap (λ (k : CacheMap). length k.used) split.2 ∙ ranks_with_parts dir r made (given_up old r one) ∙ ranks_given_up old r one
 
   -- each child is there
-  pub split_child : (i : ℕ) (d : Part) → i < 2 ^ bits → finmap.get new.held (child i) ≡ Some (at r (slice_index_or made i d).fragment)
+  pub split_child : (i : ℕ) (d : Part) → i < 2 ^ bits → finmap.get new.held (child i) ≡ Some (lies_by r (slice_index_or made i d).fragment)
   split_child i d among =
       ap (λ (k : CacheMap). finmap.get k.held (child i)) split.2 ∙ ap (λ (g : Fragment). finmap.get (with_parts dir r made (given_up old r one)).held (dir, g)) (sym (split.1.child i d (within_made i among)))
       ∙ get_of_parts dir r made (given_up old r one) (different_from dir frag bits 0 made its_place) i d (within_made i among)
 
   -- with the names that its hash picks
-  pub split_is_child : (i : ℕ) (d : Part) → i < 2 ^ bits → HasCached (here new r (child i)) (IsChild (child_of frag i bits) (shown f) (slice_index_or parts i d).fragment.generation version)
+  pub split_is_child : (i : ℕ) (d : Part) → i < 2 ^ bits → HasCached (here new r (child i)) (IsCachedChild (child_of frag i bits) (shown_names f) (slice_index_or parts i d).fragment.generation version)
   split_is_child i d among =
-      subst (λ (o : Option Cached). HasCached o (IsChild (child_of frag i bits) (shown f) (slice_index_or parts i d).fragment.generation version))
+      subst (λ (o : Option Cached). HasCached o (IsCachedChild (child_of frag i bits) (shown_names f) (slice_index_or parts i d).fragment.generation version))
       (sym (ap (at_rank r) (split_child i d among) ∙ ap (λ b. cond b (Some (slice_index_or made i d).fragment) None) (is_same r r refl)))
       (split.1.each i d (within_made i among))
 
-  apart_of : (q : Leaf) → IsNoChild dir frag bits q → AreApart q dir made
+  apart_of : (q : Leaf) → IsNoChild dir frag bits q → AreKeptApart q dir made
   apart_of q none = apart_from q dir frag bits 0 made its_place (λ i within. flips q (dir, child_of frag (0 + i) bits) ∙ none (0 + i) (among_children (0 + i) (omega (arith, within))))
 
-  one_apart : AreApart one dir made
+  one_apart : AreKeptApart one dir made
   one_apart = apart_from one dir frag bits 0 made its_place (λ i within. no_child dir frag bits (0 + i) some)
 
   -- the fragment is gone
@@ -171,7 +171,7 @@ module _ (r : ℕ) (dir : Ino) (frag : Fragment) (bits : ℕ) (parts : List Part
       ap (λ (k : CacheMap). finmap.get k.held q) split.2 ∙ get_beside_parts dir r made (given_up old r one) q (apart_of q none) ∙ get_beside old r one q (flips q one ∙ apart)
 
   -- each place was there, where one was kept for each child
-  pub split_placed : AreKept old r dir frag bits → (s : ℕ) (q : Leaf) → has_place new s q ≡ true → has_place old s q ≡ true
+  pub split_placed : HaveKeptPlaces old r dir frag bits → (s : ℕ) (q : Leaf) → has_place new s q ≡ true → has_place old s q ≡ true
   split_placed kept s q is =
       placed_with_parts dir r made (given_up old r one) old (λ s q was. placed_given_up old r one s q was)
       (λ i d within. ap (λ (g : Fragment). has_place old r (dir, g)) (split.1.child i d within) ∙ (kept i (among_children i within)).0) s q (ap (λ (k : CacheMap). has_place k s q) (sym split.2) ∙ is)
@@ -202,7 +202,7 @@ module _ (r : ℕ) (dir : Ino) (frag : Fragment) (bits : ℕ) (parts : List Part
       (parts_came Uses Ends start dir r made (given_up old r one) (ends old r one came ended) (λ i d within. subst (λ (g : Fragment). Uses r (dir, g)) (sym (split.1.child i d within)) (named i (among_children i within))))
 
   -- where places were kept for the children alone, none is kept then
-  pub split_whole : r < length old.used → IsDistinct leaf_is (order old r) → IsFreeFor old r one → AreKept old r dir frag bits → ((s : ℕ) (q : Leaf) → IsWhole old s q ⊎ IsChildAt r dir frag bits s q) → (s : ℕ) (q : Leaf) → IsWhole new s q
+  pub split_whole : r < length old.used → IsDistinct leaf_is (order old r) → IsFreeFor old r one → HaveKeptPlaces old r dir frag bits → ((s : ℕ) (q : Leaf) → HasNoKeptPlace old s q ⊎ IsChildAt r dir frag bits s q) → (s : ℕ) (q : Leaf) → HasNoKeptPlace new s q
   split_whole there distinct free kept either s q placed = go (either s q)
     where
       -- a fragment that is there is no child's
@@ -223,10 +223,10 @@ module _ (r : ℕ) (dir : Ino) (frag : Fragment) (bits : ℕ) (parts : List Part
               let at_it : s ≡ r = of_rank s r (finmap.get old.held one) free (subst (λ (l : Leaf). IsThere (here old s l)) (sym (one_leaf one q seen)) is) in
               sym (sym (split_no_place there distinct) ∙ ap (has_place new r) (one_leaf one q seen) ∙ ap (λ (k : ℕ). has_place new k q) (sym at_it) ∙ placed)
 
-      go : IsWhole old s q ⊎ IsChildAt r dir frag bits s q → IsThere (here new s q)
+      go : HasNoKeptPlace old s q ⊎ IsChildAt r dir frag bits s q → IsThere (here new s q)
       go (inl whole) =
           let was : IsThere (here old s q) = whole (split_placed kept s q placed) in
           subst (λ o. IsThere (at_rank s o)) (sym (split_beside q (not_it was) (not_child was))) was
       go (inr at_child) =
           subst (λ (k : ℕ). IsThere (here new k q)) (sym at_child.0)
-          (subst (λ (l : Leaf). IsThere (here new r l)) (sym at_child.3) (has_there_so (here new r (child at_child.1)) (IsChild (child_of frag at_child.1 bits) (shown f) (slice_index_or parts at_child.1 (record { frag = frag; fragment = f })).fragment.generation version) (split_is_child at_child.1 (record { frag = frag; fragment = f }) at_child.2)))
+          (subst (λ (l : Leaf). IsThere (here new r l)) (sym at_child.3) (has_there_so (here new r (child at_child.1)) (IsCachedChild (child_of frag at_child.1 bits) (shown_names f) (slice_index_or parts at_child.1 (record { frag = frag; fragment = f })).fragment.generation version) (split_is_child at_child.1 (record { frag = frag; fragment = f }) at_child.2)))

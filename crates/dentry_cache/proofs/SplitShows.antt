@@ -9,12 +9,12 @@ use Rattle.objstore.specs.Omap.{Omap}
 use Rattle.cached_frag.specs.declared.bases.Base.{Base}
 use Rattle.cached_frag.specs.declared.bases.Base.TheVariants.{Fresh}
 use Rattle.dirfrag_codec.specs.FragmentObject.{Names}
-use Rattle.cached_frag.specs.Cached.{Cached, shown}
+use Rattle.cached_frag.specs.Cached.{Cached, shown_names}
 use Rattle.dentry_cache.specs.declared.parts.Part.{Part}
 use Rattle.dentry_cache.specs.Cache.{HasCached, Leaf, leaf_is}
 use Rattle.dentry_cache.specs.Ties.{IsTied, IsTiedAt}
 use Rattle.dentry_cache.specs.Divided.{AreReady}
-use Rattle.dentry_cache.specs.Parting.{AreApart}
+use Rattle.dentry_cache.specs.Parting.{AreKeptApart}
 
 -- one of the numbers below is this one, or below it
 pub below_or_it : (i n : ℕ) → i < n + 1 → (i < n) ⊎ (i ≡ n)
@@ -23,7 +23,7 @@ below_or_it i n less = elim (cases_lt i n) [ inl below ↦ inl below | inr over 
 pub fresh_tied : (f : Cached) (object : Option Omap) → f.base ≡ Fresh → IsTied f object
 fresh_tied f object fresh = subst (λ (b : Base). IsTiedAt b f object) (sym fresh) tt
 
-pub apart_from : (leaf : Leaf) (dir : Ino) (frag : Fragment) (nb n : ℕ) (parts : List Part) → ((i : ℕ) (d : Part) → i < length parts → (slice_index_or parts i d).frag ≡ child_of frag (n + i) nb) → ((i : ℕ) → i < length parts → leaf_is leaf (dir, child_of frag (n + i) nb) ≡ false) → AreApart leaf dir parts
+pub apart_from : (leaf : Leaf) (dir : Ino) (frag : Fragment) (nb n : ℕ) (parts : List Part) → ((i : ℕ) (d : Part) → i < length parts → (slice_index_or parts i d).frag ≡ child_of frag (n + i) nb) → ((i : ℕ) → i < length parts → leaf_is leaf (dir, child_of frag (n + i) nb) ≡ false) → AreKeptApart leaf dir parts
 apart_from leaf dir frag nb n [] are apart = tt
 apart_from leaf dir frag nb n (part ∷ parts) are apart =
     let first : part.frag ≡ child_of frag (n + 0) nb = are 0 part (omega arith) in (
@@ -34,6 +34,6 @@ apart_from leaf dir frag nb n (part ∷ parts) are apart =
     next : (i : ℕ) → child_of frag (n + suc i) nb ≡ child_of frag (n + 1 + i) nb
     next i = let same : n + suc i ≡ n + 1 + i = omega arith in ap (λ (m : ℕ). child_of frag m nb) same
 
-pub ready_of : (frag : Fragment) (nb : ℕ) (names : Names) (parts : List Part) (o : Option Cached) → HasCached o (λ (f : Cached). (map.len f.dirty ≤ f.places) × AreReady frag nb (shown f) parts) → HasCached o (λ (f : Cached). names ≡ shown f) → AreReady frag nb names parts
+pub ready_of : (frag : Fragment) (nb : ℕ) (names : Names) (parts : List Part) (o : Option Cached) → HasCached o (λ (f : Cached). (map.len f.dirty ≤ f.places) × AreReady frag nb (shown_names f) parts) → HasCached o (λ (f : Cached). names ≡ shown_names f) → AreReady frag nb names parts
 ready_of frag nb names parts (Some f) ready is = subst (λ (n : Names). AreReady frag nb n parts) (sym is) ready.1
 ready_of frag nb names parts None ready is = absurd ready

@@ -11,7 +11,7 @@ use Rattle.sorted_map.proofs.NatKeys.{is_apart, is_same, same_or_apart}
 use Rattle.cached_frag.specs.Cached.{Cached}
 use Rattle.dentry_cache.specs.Cache.{Leaf, leaf_is}
 use Rattle.dentry_cache.specs.CacheCalls.{Edits, IsEdited, IsRewritten, Rewrites}
-use Rattle.dentry_cache.specs.CacheMap.{At, CacheMap, IsFree, IsFreeFor, at, at_rank, first, given_up, goes, has_place, here, less, order, removed, rewritten, roomy, used_at, victim, with_frag}
+use Rattle.dentry_cache.specs.CacheMap.{At, CacheMap, IsFree, IsFreeFor, lies_by, at_rank, moved_first, given_up, goes, has_place, here, less, order, removed, rewritten, roomy, used_at, victim, with_frag}
 use Rattle.dentry_cache.proofs.UncleanLaws.{last_passes}
 use Rattle.dentry_cache.proofs.LeafLaws.{leaf-total, leaf_itself, one_leaf, tied_leaf}
 
@@ -30,10 +30,10 @@ by_room c mid r stay made P same went = go (nat_lt (length (order c r)) c.cap) (
 
 -- as many ranks
 pub ranks_used : (c : CacheMap) (r : ℕ) (leaf : Leaf) → length (used_at c r leaf).used ≡ length c.used
-ranks_used c r leaf = length-set c.used r (first leaf (order c r))
+ranks_used c r leaf = length-set c.used r (moved_first leaf (order c r))
 
 pub ranks_with_frag : (c : CacheMap) (r : ℕ) (leaf : Leaf) (f : Cached) → length (with_frag c r leaf f).used ≡ length c.used
-ranks_with_frag c r leaf f = length-set c.used r (first leaf (order c r))
+ranks_with_frag c r leaf f = length-set c.used r (moved_first leaf (order c r))
 
 pub ranks_given_up : (c : CacheMap) (r : ℕ) (leaf : Leaf) → length (given_up c r leaf).used ≡ length c.used
 ranks_given_up c r leaf = length-set c.used r (less leaf (order c r))
@@ -48,8 +48,8 @@ cap_roomy c mid r stay made = by_room c mid r stay made (λ (k : CacheMap). k.ca
 -- ---- each leaf's fragment, with its rank
 
 -- a fragment that a rank was given
-pub get_with_frag : (c : CacheMap) (r : ℕ) (leaf : Leaf) (f : Cached) (q : Leaf) → finmap.get (with_frag c r leaf f).held q ≡ cond (leaf_is q leaf) (Some (at r f)) (finmap.get c.held q)
-get_with_frag c r leaf f q = get-insert leaf-total c.held leaf (at r f) q ∙ ap (λ b. cond b (Some (at r f)) (finmap.get c.held q)) (tied_leaf q leaf)
+pub get_with_frag : (c : CacheMap) (r : ℕ) (leaf : Leaf) (f : Cached) (q : Leaf) → finmap.get (with_frag c r leaf f).held q ≡ cond (leaf_is q leaf) (Some (lies_by r f)) (finmap.get c.held q)
+get_with_frag c r leaf f q = get-insert leaf-total c.held leaf (lies_by r f) q ∙ ap (λ b. cond b (Some (lies_by r f)) (finmap.get c.held q)) (tied_leaf q leaf)
 
 -- a leaf's place that was given up, which no other rank has
 pub get_given_up : (c : CacheMap) (r : ℕ) (leaf q : Leaf) → IsFreeFor c r leaf → finmap.get (given_up c r leaf).held q ≡ cond (leaf_is q leaf) None (finmap.get c.held q)
@@ -96,7 +96,7 @@ held_roomy c mid r stay q a made = by_room c mid r stay made (λ (k : CacheMap).
 pub here_with_frag : (c : CacheMap) (r : ℕ) (leaf : Leaf) (f : Cached) (s : ℕ) (q : Leaf) → here (with_frag c r leaf f) s q ≡ cond (leaf_is q leaf) (cond (r == s) (Some f) None) (here c s q)
 here_with_frag c r leaf f s q = ap (at_rank s) (get_with_frag c r leaf f q) ∙ go (leaf_is q leaf)
   where
-    go : (b : Bool) → at_rank s (cond b (Some (at r f)) (finmap.get c.held q)) ≡ cond b (cond (r == s) (Some f) None) (here c s q)
+    go : (b : Bool) → at_rank s (cond b (Some (lies_by r f)) (finmap.get c.held q)) ≡ cond b (cond (r == s) (Some f) None) (here c s q)
     go true = refl
     go false = refl
 
@@ -177,13 +177,13 @@ less_among q leaf (x ∷ xs) is = go (leaf_is leaf x) (leaf_is q x) (λ rest. le
 
 -- each place was there, or is the one that was used
 pub placed_used : (c : CacheMap) (r : ℕ) (leaf : Leaf) (s : ℕ) (q : Leaf) → has_place (used_at c r leaf) s q ≡ true → (has_place c s q ≡ true) ⊎ ((s ≡ r) × (q ≡ leaf))
-placed_used c r leaf s q is = go (set_either c.used r s (first leaf (order c r)))
+placed_used c r leaf s q is = go (set_either c.used r s (moved_first leaf (order c r)))
   where
     on : (b : Bool) → leaf_is q leaf ≡ b → s ≡ r → (b || list_any (leaf_is q) (less leaf (order c r))) ≡ true → (has_place c s q ≡ true) ⊎ ((s ≡ r) × (q ≡ leaf))
     on true one rank is = inr (rank, one_leaf q leaf one)
     on false one rank is = inl (ap (λ (k : ℕ). has_place c k q) rank ∙ less_among q leaf (order c r) is)
 
-    go : ((s ≡ r) × (get_or (set c.used r (first leaf (order c r))) s [] ≡ first leaf (order c r))) ⊎ (get_or (set c.used r (first leaf (order c r))) s [] ≡ get_or c.used s []) → (has_place c s q ≡ true) ⊎ ((s ≡ r) × (q ≡ leaf))
+    go : ((s ≡ r) × (get_or (set c.used r (moved_first leaf (order c r))) s [] ≡ moved_first leaf (order c r))) ⊎ (get_or (set c.used r (moved_first leaf (order c r))) s [] ≡ get_or c.used s []) → (has_place c s q ≡ true) ⊎ ((s ≡ r) × (q ≡ leaf))
     go (inl set) = on (leaf_is q leaf) refl set.0 (ap (list_any (leaf_is q)) (sym set.1) ∙ is)
     go (inr same) = inl (ap (list_any (leaf_is q)) (sym same) ∙ is)
 
@@ -229,10 +229,10 @@ has_used c r leaf s q there = go (same_or_apart r s)
 
     go : (r ≡ s) ⊎ (r ≡ s → ⊥) → has_place (used_at c r leaf) s q ≡ cond ((r == s) && leaf_is q leaf) true (has_place c s q)
     go (inl same) =
-        ap (λ (k : ℕ). has_place (used_at c r leaf) k q) (sym same) ∙ ap (list_any (leaf_is q)) (get_or-set_same c.used r (first leaf (order c r)) [] there) ∙ on (leaf_is q leaf) refl
+        ap (λ (k : ℕ). has_place (used_at c r leaf) k q) (sym same) ∙ ap (list_any (leaf_is q)) (get_or-set_same c.used r (moved_first leaf (order c r)) [] there) ∙ on (leaf_is q leaf) refl
         ∙ ap (λ (k : ℕ). cond (leaf_is q leaf) true (has_place c k q)) same ∙ ap (λ (b : Bool). cond (b && leaf_is q leaf) true (has_place c s q)) (sym (is_same r s same))
     go (inr apart) =
-        ap (list_any (leaf_is q)) (get_or-set_other c.used r s (first leaf (order c r)) [] (λ (e : s ≡ r). apart (sym e)))
+        ap (list_any (leaf_is q)) (get_or-set_other c.used r s (moved_first leaf (order c r)) [] (λ (e : s ≡ r). apart (sym e)))
         ∙ ap (λ (b : Bool). cond (b && leaf_is q leaf) true (has_place c s q)) (sym (is_apart r s apart))
 
 pub has_with_frag : (c : CacheMap) (r : ℕ) (leaf : Leaf) (f : Cached) (s : ℕ) (q : Leaf) → r < length c.used → has_place (with_frag c r leaf f) s q ≡ cond ((r == s) && leaf_is q leaf) true (has_place c s q)

@@ -7,7 +7,7 @@ use Rattle.std.proofs.lemmas.Bool.{eqb-true}
 use Rattle.mds_types.specs.Frag.{Fragment}
 use Rattle.mds_types.specs.declared.inodes.Inode.{Inode}
 use Rattle.objstore.specs.Omap.{Omap, empty_omap}
-use Rattle.dirfrag_codec.specs.FragmentObject.{Names, SpellsFragment, names_of}
+use Rattle.dirfrag_codec.specs.FragmentObject.{Names, SpellsFragment, names_of_pairs}
 use Rattle.dirfrag_codec.proofs.ByteKeys.{get_beside, get_put, one_map, same_or_apart}
 use Rattle.dirfrag_codec.proofs.FragmentLaws.{names_shown}
 use Rattle.cached_frag.specs.declared.bases.Base.{Base}
@@ -18,11 +18,11 @@ use Rattle.cached_frag.specs.Marks.{Marks, inode_or, patched}
 use Rattle.cached_frag.specs.Snap.{Snap, counts_of, next_version}
 use Rattle.cached_frag.proofs.CommitLaws.{commit_is_right}
 use Rattle.cached_frag.proofs.MarkLaws.{get-patched}
-use Rattle.cached_frag.specs.Cached.{Cached, is_settled, marked, names_below, shown, shown_over}
+use Rattle.cached_frag.specs.Cached.{Cached, is_settled, marked, names_below, shown_names, shown_over}
 use Rattle.cached_frag.proofs.SettledLaws.{get-unsettled}
 use Rattle.dentry_cache.specs.Loading.{Loads}
 use Rattle.dentry_cache.specs.Commits.{IsCommitted}
-use Rattle.dentry_cache.specs.Ties.{ChangedAreTied, Commits, CommittedAreTied, FetchedAreTied, IsRight, IsTied, IsTiedAt, KeepsAt, TiedShow, names_at, object_after}
+use Rattle.dentry_cache.specs.Ties.{ChangedAreTied, Commits, CommittedAreTied, FetchedAreTied, IsRight, IsTied, IsTiedAt, IsStillDirty, TiedShow, names_at, object_after}
 
 -- ---- what is shown
 
@@ -36,7 +36,7 @@ alike clean below dirty same = one_map _ _ (λ q. get-patched clean dirty q ∙ 
 show_at : (base : Base) (f : Cached) (object : Option Omap) → IsTiedAt base f object → shown_over base f.clean f.dirty ≡ shown_over base (names_at object) f.dirty
 show_at Fresh f object tie = refl
 show_at (Stored version) f None tie = absurd tie
-show_at (Stored version) f (Some object) tie = alike f.clean (names_of object.pairs) f.dirty tie.1
+show_at (Stored version) f (Some object) tie = alike f.clean (names_of_pairs object.pairs) f.dirty tie.1
 
 pub tied_show : TiedShow
 tied_show f object tie = show_at f.base f object tie
@@ -45,7 +45,7 @@ tied_show f object tie = show_at f.base f object tie
 
 fetched_at : (frag : Fragment) (object : Omap) (f : Cached) → Loads frag (Some object) (Some f) → IsTied f (Some object)
 fetched_at frag object f l =
-    let names : l.1 ≡ names_of object.pairs = names_shown object.pairs l.1 l.2.0.pairs in
+    let names : l.1 ≡ names_of_pairs object.pairs = names_shown object.pairs l.1 l.2.0.pairs in
     subst (λ (g : Cached). IsTied g (Some object)) (sym l.3)
     (subst (SpellsFragment object l.0) names l.2.0, λ name clean. ap (λ (n : Names). map.get n name) names)
 
@@ -71,7 +71,7 @@ changed_are_tied f object name mark tie = changed_at f.base f object name mark t
 -- ---- what is committed
 
 -- a name that became clean is what the snapshot has
-became : (mark : Mark) (then : Option Mark) (below : Option Inode) → KeepsAt (Some mark) then → cond (not (is_settled (Some mark) then)) (Some mark) None ≡ None → mark.inode ≡ inode_or then below
+became : (mark : Mark) (then : Option Mark) (below : Option Inode) → IsStillDirty (Some mark) then → cond (not (is_settled (Some mark) then)) (Some mark) None ≡ None → mark.inode ≡ inode_or then below
 became mark (Some then) below keeps none = go (mark.version == then.version) refl none
   where
     go : (b : Bool) → (mark.version == then.version) ≡ b → cond (not b) (Some mark) None ≡ None → mark.inode ≡ then.inode
@@ -79,7 +79,7 @@ became mark (Some then) below keeps none = go (mark.version == then.version) ref
     go false same none = cc
 became mark None below keeps none = cc
 
-at_name : (mark then : Option Mark) (clean below : Option Inode) → KeepsAt mark then → (mark ≡ None → clean ≡ below) → cond (not (is_settled mark then)) mark None ≡ None → inode_or mark clean ≡ inode_or then below
+at_name : (mark then : Option Mark) (clean below : Option Inode) → IsStillDirty mark then → (mark ≡ None → clean ≡ below) → cond (not (is_settled mark then)) mark None ≡ None → inode_or mark clean ≡ inode_or then below
 at_name (Some mark) then clean below keeps same none = became mark then below keeps none
 at_name None (Some then) clean below keeps same none = absurd keeps
 at_name None None clean below keeps same none = same refl
@@ -93,7 +93,7 @@ same_below (Stored version) f (Some object) q tie none = tie.1 q none
 over : (base : Base) (snapshot : Snap) (f : Cached) (object : Option Omap) → IsTiedAt base f object → snapshot.base ≡ base → Commits snapshot f object → IsOver base snapshot (unwrap_or object empty_omap) (names_below base (names_at object))
 over Fresh snapshot f object tie is c = refl
 over (Stored version) snapshot f None tie is c = absurd tie
-over (Stored version) snapshot f (Some object) tie is c = (tie.0, c.counted ∙ ap (λ (b : Base). counts_of (shown_over b (names_of object.pairs) snapshot.names)) is)
+over (Stored version) snapshot f (Some object) tie is c = (tie.0, c.counted ∙ ap (λ (b : Base). counts_of (shown_over b (names_of_pairs object.pairs) snapshot.names)) is)
 
 module _ (snapshot : Snap) (f now : Cached) (object : Option Omap) (tie : IsTied f object) (c : Commits snapshot f object) (done : IsCommitted snapshot f now) where
   below : Names
@@ -105,14 +105,14 @@ module _ (snapshot : Snap) (f now : Cached) (object : Option Omap) (tie : IsTied
   spells : SpellsFragment (object_after snapshot object) (next_version snapshot.base) (shown_over snapshot.base (names_at object) snapshot.names)
   spells = commit_is_right snapshot (unwrap_or object empty_omap) (names_below snapshot.base (names_at object)) c.valid (over snapshot.base snapshot f object tie_here refl c)
 
-  names_now : shown_over snapshot.base (names_at object) snapshot.names ≡ names_of (object_after snapshot object).pairs
+  names_now : shown_over snapshot.base (names_at object) snapshot.names ≡ names_of_pairs (object_after snapshot object).pairs
   names_now = names_shown (object_after snapshot object).pairs (shown_over snapshot.base (names_at object) snapshot.names) spells.pairs
 
-  clean_now : (q : List ℕ) → map.get now.dirty q ≡ None → map.get now.clean q ≡ map.get (shown now) q
+  clean_now : (q : List ℕ) → map.get now.dirty q ≡ None → map.get now.clean q ≡ map.get (shown_names now) q
   clean_now q none =
       sym (ap (λ (b : Base). map.get (shown_over b now.clean now.dirty) q) done.based ∙ get-patched now.clean now.dirty q ∙ ap (λ (r : Option Mark). inode_or r (map.get now.clean q)) none)
 
-  agrees : (q : List ℕ) → map.get now.dirty q ≡ None → map.get now.clean q ≡ map.get (names_of (object_after snapshot object).pairs) q
+  agrees : (q : List ℕ) → map.get now.dirty q ≡ None → map.get now.clean q ≡ map.get (names_of_pairs (object_after snapshot object).pairs) q
   agrees q none =
       let left : cond (not (is_settled (map.get f.dirty q) (map.get snapshot.names q))) (map.get f.dirty q) None ≡ None =
       sym (get-unsettled f.dirty snapshot.names q) ∙ sym (ap (λ (m : Marks). map.get m q) done.dirty) ∙ none in

@@ -8,8 +8,8 @@ use Rattle.std.specs.FinMap.{contains_key-keys, get-insert, get-remove, same_map
 use Rattle.std.proofs.lemmas.Option.{same_Some}
 use Rattle.sorted_map.proofs.NatKeys.{is_same}
 use Rattle.cached_frag.specs.Cached.{Cached, is_clean}
-use Rattle.dentry_cache.specs.Cache.{Leaf, leaf_cmp, leaf_is, stays, unsaved_in, with_unsaved}
-use Rattle.dentry_cache.specs.CacheMap.{At, CacheMap, IsFree, IsFreeFor, at, at_rank, clean_in, given_up, goes, here, last_by, or_this, order, removed, roomy, unclean, unsaved_at, victim, with_frag}
+use Rattle.dentry_cache.specs.Cache.{Leaf, leaf_cmp, leaf_is, is_to_stay, unsaved_in, with_unsaved}
+use Rattle.dentry_cache.specs.CacheMap.{At, CacheMap, IsFree, IsFreeFor, lies_by, at_rank, clean_in, given_up, goes, here, last_by, or_this, order, removed, roomy, unclean, unsaved_at, victim, with_frag}
 use Rattle.dentry_cache.proofs.CacheLaws.{unsaved_here}
 use Rattle.dentry_cache.proofs.MapLaws.{get_tabulate}
 use Rattle.dentry_cache.proofs.LeafLaws.{leaf-exact, leaf-total, one_leaf, tied_leaf}
@@ -35,18 +35,18 @@ unclean_alike c d alike = same_map leaf-total leaf-exact (unclean c) (unclean d)
 -- a fragment that a rank was given
 pub unclean_with : (c : CacheMap) (r : ℕ) (leaf : Leaf) (f : Cached) → unclean (with_frag c r leaf f) ≡ with_unsaved (unclean c) leaf (unsaved_in (Some f))
 unclean_with c r leaf f = same_map leaf-total leaf-exact _ _ (λ q.
-    get_unclean (with_frag c r leaf f) q ∙ ap unsaved_at (get-insert leaf-total c.held leaf (at r f) q ∙ ap (λ b. cond b (Some (at r f)) (finmap.get c.held q)) (tied_leaf q leaf)) ∙ go q (leaf_is q leaf)
+    get_unclean (with_frag c r leaf f) q ∙ ap unsaved_at (get-insert leaf-total c.held leaf (lies_by r f) q ∙ ap (λ b. cond b (Some (lies_by r f)) (finmap.get c.held q)) (tied_leaf q leaf)) ∙ go q (leaf_is q leaf)
     ∙ ap (cond (leaf_is q leaf) (unsaved_in (Some f))) (sym (get_unclean c q)) ∙ sym (unsaved_here (unclean c) leaf q (unsaved_in (Some f))))
   where
-    go : (q : Leaf) (b : Bool) → unsaved_at (cond b (Some (at r f)) (finmap.get c.held q)) ≡ cond b (unsaved_in (Some f)) (unsaved_at (finmap.get c.held q))
+    go : (q : Leaf) (b : Bool) → unsaved_at (cond b (Some (lies_by r f)) (finmap.get c.held q)) ≡ cond b (unsaved_in (Some f)) (unsaved_at (finmap.get c.held q))
     go q true = refl
     go q false = refl
 
 -- one whose like was there, or a clean one that comes where none was
 pub unclean_same : (c : CacheMap) (r : ℕ) (leaf : Leaf) (f : Cached) → unsaved_at (finmap.get c.held leaf) ≡ unsaved_in (Some f) → unclean (with_frag c r leaf f) ≡ unclean c
-unclean_same c r leaf f was = unclean_alike (with_frag c r leaf f) c (λ q. ap unsaved_at (get-insert leaf-total c.held leaf (at r f) q ∙ ap (λ b. cond b (Some (at r f)) (finmap.get c.held q)) (tied_leaf q leaf)) ∙ go q (leaf_is q leaf) refl)
+unclean_same c r leaf f was = unclean_alike (with_frag c r leaf f) c (λ q. ap unsaved_at (get-insert leaf-total c.held leaf (lies_by r f) q ∙ ap (λ b. cond b (Some (lies_by r f)) (finmap.get c.held q)) (tied_leaf q leaf)) ∙ go q (leaf_is q leaf) refl)
   where
-    go : (q : Leaf) (b : Bool) → leaf_is q leaf ≡ b → unsaved_at (cond b (Some (at r f)) (finmap.get c.held q)) ≡ unsaved_at (finmap.get c.held q)
+    go : (q : Leaf) (b : Bool) → leaf_is q leaf ≡ b → unsaved_at (cond b (Some (lies_by r f)) (finmap.get c.held q)) ≡ unsaved_at (finmap.get c.held q)
     go q true one = sym was ∙ ap (λ (l : Leaf). unsaved_at (finmap.get c.held l)) (sym (one_leaf q leaf one))
     go q false one = refl
 
@@ -58,11 +58,11 @@ unclean_gone c r leaf clean = go (here c r leaf) refl
     went o = record { held = removed c.held leaf o; used = (given_up c r leaf).used; cap = c.cap }
 
     go : (o : Option Cached) → here c r leaf ≡ o → unclean (went o) ≡ unclean c
-    go None at = unclean_alike (went None) c (λ q. refl)
-    go (Some f) at = unclean_alike (went (Some f)) c (λ q. ap unsaved_at (get-remove leaf-total c.held leaf q ∙ ap (λ b. cond b None (finmap.get c.held q)) (tied_leaf q leaf)) ∙ on q (leaf_is q leaf) refl)
+    go None lies_by = unclean_alike (went None) c (λ q. refl)
+    go (Some f) lies_by = unclean_alike (went (Some f)) c (λ q. ap unsaved_at (get-remove leaf-total c.held leaf q ∙ ap (λ b. cond b None (finmap.get c.held q)) (tied_leaf q leaf)) ∙ on q (leaf_is q leaf) refl)
       where
         on : (q : Leaf) (b : Bool) → leaf_is q leaf ≡ b → unsaved_at (cond b None (finmap.get c.held q)) ≡ unsaved_at (finmap.get c.held q)
-        on q true one = sym (ap (λ (l : Leaf). unsaved_at (finmap.get c.held l)) (one_leaf q leaf one) ∙ clean (ap (λ (o : Option Cached). is_some o) at))
+        on q true one = sym (ap (λ (l : Leaf). unsaved_at (finmap.get c.held l)) (one_leaf q leaf one) ∙ clean (ap (λ (o : Option Cached). is_some o) lies_by))
         on q false one = refl
 
 -- a leaf whose place is given up, which no other rank has
@@ -87,12 +87,12 @@ unclean_given_up c r leaf free = same_map leaf-total leaf-exact _ _ (λ q. get_u
 
 pub last_passes : (t : Leaf → Bool) (xs : List Leaf) (x : Leaf) → last_by t xs ≡ Some x → t x ≡ true
 last_passes t [] x is = let clash : None ≡ Some x = is in absurd cc
-last_passes t (y ∷ ys) x is = go (λ at. last_passes t ys x at) (last_by t ys) refl (t y) refl is
+last_passes t (y ∷ ys) x is = go (λ lies_by. last_passes t ys x lies_by) (last_by t ys) refl (t y) refl is
   where
     go : (last_by t ys ≡ Some x → t x ≡ true) → (o : Option Leaf) → last_by t ys ≡ o → (b : Bool) → t y ≡ b → or_this o (cond b (Some y) None) ≡ Some x → t x ≡ true
-    go rest (Some z) at b passes is = rest (at ∙ is)
-    go rest None at true passes is = ap t (sym (same_Some y x is)) ∙ passes
-    go rest None at false passes is = let clash : None ≡ Some x = is in absurd cc
+    go rest (Some z) lies_by b passes is = rest (lies_by ∙ is)
+    go rest None lies_by true passes is = ap t (sym (same_Some y x is)) ∙ passes
+    go rest None lies_by false passes is = let clash : None ≡ Some x = is in absurd cc
 
 pub clean_there : (r : ℕ) (o : Option At) (b : Bool) → (clean_in (at_rank r o) && b) ≡ true → unsaved_at o ≡ None
 clean_there r None b passes = refl
@@ -107,8 +107,8 @@ pub unclean_roomy : (c mid : CacheMap) (r : ℕ) (stay : Option Leaf) → roomy 
 unclean_roomy c mid r stay is = go (nat_lt (length (order c r)) c.cap) (victim c r stay) refl is
   where
     go : (b : Bool) (v : Option Leaf) → victim c r stay ≡ v → cond b (Some c) (option_map (given_up c r) v) ≡ Some mid → unclean mid ≡ unclean c
-    go true v at is = ap unclean (sym (same_Some c mid is))
-    go false None at is = let clash : None ≡ Some mid = is in absurd cc
-    go false (Some v) at is =
+    go true v lies_by is = ap unclean (sym (same_Some c mid is))
+    go false None lies_by is = let clash : None ≡ Some mid = is in absurd cc
+    go false (Some v) lies_by is =
         ap unclean (sym (same_Some (given_up c r v) mid is))
-        ∙ unclean_gone c r v (λ some. clean_there r (finmap.get c.held v) (not (stays stay v)) (last_passes (goes c r stay) (order c r) v at))
+        ∙ unclean_gone c r v (λ some. clean_there r (finmap.get c.held v) (not (is_to_stay stay v)) (last_passes (goes c r stay) (order c r) v lies_by))

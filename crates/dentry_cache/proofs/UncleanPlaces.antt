@@ -9,7 +9,7 @@ use Rattle.mds_types.specs.declared.dirfrags.Dirfrag.{Dirfrag}
 use Rattle.cached_frag.specs.Cached.{is_clean}
 use Rattle.dentry_cache.specs.Cache.{Leaf, Places, Unsaved, cached, fragment_in, leaf_is, unsaved_in}
 use Rattle.dentry_cache.specs.CacheMap.{CacheMap, here, order}
-use Rattle.dentry_cache.specs.Unclean.{is_unclean, unclean_among, unclean_from, unclean_in}
+use Rattle.dentry_cache.specs.Unclean.{is_unclean, unclean_among, unclean_from, unclean_leaves_in}
 use Rattle.dentry_cache.specs.declared.cache.Place.{Place}
 use Rattle.dentry_cache.proofs.LeafLaws.{flips, leaf_itself}
 
@@ -35,13 +35,13 @@ each_found [] distinct = tt
 each_found (e ∷ es) (others, distinct) = (ap (λ b. cond b (Some e.1) (lookup (leaf_is e.0) es)) (leaf_itself e.0), apart_from e es es others (each_found es distinct))
 
 module _ (c : CacheMap) (r : ℕ) (all : Places) (seen : (q : Leaf) → cached all q ≡ here c r q) where
-  among_so : (es : Places) → AllByRecursion (λ (d : Leaf × Place). lookup (leaf_is d.0) all ≡ Some d.1) es → unclean_in (record { 0 = r }) es ≡ unclean_among c r (keys_of es)
+  among_so : (es : Places) → AllByRecursion (λ (d : Leaf × Place). lookup (leaf_is d.0) all ≡ Some d.1) es → unclean_leaves_in (record { 0 = r }) es ≡ unclean_among c r (keys_of es)
   among_so [] found = refl
   among_so (e ∷ es) (one, found) =
       let told : is_unclean e.1 ≡ is_some (unsaved_in (here c r e.0)) = sym (unclean_is e.1) ∙ ap (λ o. is_some (unsaved_in (fragment_in o))) (sym one) ∙ ap (λ o. is_some (unsaved_in o)) (seen e.0) in
       λ i. cond (told i) (record { dir = e.0.0; frag = e.0.1; rank = record { 0 = r } } ∷ among_so es found i) (among_so es found i)
 
-  pub among_is : IsDistinct leaf_is (keys_of all) → unclean_in (record { 0 = r }) all ≡ unclean_among c r (keys_of all)
+  pub among_is : IsDistinct leaf_is (keys_of all) → unclean_leaves_in (record { 0 = r }) all ≡ unclean_among c r (keys_of all)
   among_is distinct = among_so all (each_found all distinct)
 
 -- the first so many, once more taken with others behind
@@ -57,13 +57,13 @@ few_taken (suc n) (x ∷ xs) = let less = few_taken n xs in omega (arith, less)
 
 -- a rank more
 module _ (c : CacheMap) (i most : ℕ) (leaves new all : List Dirfrag) (es : Places) where
-  pub rank_more : (rank : Rank) → rank.0 ≡ i → i < length c.used → ((q : Leaf) → cached es q ≡ here c i q) → IsDistinct leaf_is (keys_of es) → order c i ≡ keys_of es → new ≡ take most (leaves ++ unclean_in rank es)
+  pub rank_more : (rank : Rank) → rank.0 ≡ i → i < length c.used → ((q : Leaf) → cached es q ≡ here c i q) → IsDistinct leaf_is (keys_of es) → order c i ≡ keys_of es → new ≡ take most (leaves ++ unclean_leaves_in rank es)
       → take most (leaves ++ unclean_from c i (drop i c.used)) ≡ all → take most (new ++ unclean_from c (i + 1) (drop (i + 1) c.used)) ≡ all
   rank_more rank at within seen distinct keys is so_far =
       ap (λ l. take most (l ++ rest)) is
-      ∙ taken_twice most (leaves ++ unclean_in rank es) rest
-      ∙ ap (take most) (append_assoc leaves (unclean_in rank es) rest)
-      ∙ ap (λ l. take most (leaves ++ (l ++ rest))) (ap (λ n. unclean_in (record { 0 = n }) es) at ∙ among_is c i es seen distinct ∙ ap (unclean_among c i) (sym keys))
+      ∙ taken_twice most (leaves ++ unclean_leaves_in rank es) rest
+      ∙ ap (take most) (append_assoc leaves (unclean_leaves_in rank es) rest)
+      ∙ ap (λ l. take most (leaves ++ (l ++ rest))) (ap (λ n. unclean_leaves_in (record { 0 = n }) es) at ∙ among_is c i es seen distinct ∙ ap (unclean_among c i) (sym keys))
       ∙ ap (λ us. take most (leaves ++ unclean_from c i us)) (sym (drop_more c.used i [] within))
       ∙ so_far
     where

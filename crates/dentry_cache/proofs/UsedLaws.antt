@@ -16,7 +16,7 @@ use Rattle.cached_frag.specs.declared.marks.Mark.{Mark}
 use Rattle.cached_frag.specs.Cached.{Cached, is_clean}
 use Rattle.dentry_cache.specs.Loading.{Loads}
 use Rattle.dentry_cache.specs.declared.cache.Place.{Place}
-use Rattle.dentry_cache.specs.Cache.{Evicts, Held, IsUsed, Leaf, MakesRoom, MayMakeRoom, Places, TakesPlace, fragment_in, held, is_kept, leaf_is, unsaved_in, used_as}
+use Rattle.dentry_cache.specs.Cache.{Evicts, Held, IsTouched, Leaf, MakesRoom, MayMakeRoom, Places, TakesPlace, fragment_in, held, is_kept, leaf_is, unsaved_in, used_as}
 use Rattle.dentry_cache.specs.Fetches.{IsFetched, IsNotFetched, IsRefusedIn}
 use Rattle.dentry_cache.proofs.LeafLaws.{flips, leaf_itself, one_leaf}
 
@@ -88,7 +88,7 @@ all_promoted {X} leaf q places = go (leaf_is leaf q) refl (lookup (leaf_is leaf)
         ∙ beside_removal leaf q places apart
 
 pub is_used : (leaf : Leaf) (old mid new : Held) (there : Bool) → mid ≡ old → there ≡ is_some (lookup (leaf_is leaf) mid.entries) → new ≡ lru_cache (promoted (leaf_is leaf) mid.entries) mid.cap
-    → IsUsed (lookup (leaf_is leaf) old.entries) leaf old new there
+    → IsTouched (lookup (leaf_is leaf) old.entries) leaf old new there
 is_used leaf old mid new there same told is = go (lookup (leaf_is leaf) old.entries) refl
   where
     now : new ≡ lru_cache (promoted (leaf_is leaf) old.entries) old.cap
@@ -97,19 +97,19 @@ is_used leaf old mid new there same told is = go (lookup (leaf_is leaf) old.entr
     said : there ≡ is_some (lookup (leaf_is leaf) old.entries)
     said = told ∙ ap (λ (h : Held). is_some (lookup (leaf_is leaf) h.entries)) same
 
-    go : (o : Option Place) → lookup (leaf_is leaf) old.entries ≡ o → IsUsed o leaf old new there
+    go : (o : Option Place) → lookup (leaf_is leaf) old.entries ≡ o → IsTouched o leaf old new there
     go (Some place) found = (said ∙ ap (λ (o : Option Place). is_some o) found, now ∙ ap (λ (es : Places). lru_cache es old.cap) (promoted_is leaf place old.entries found))
     go None found = (said ∙ ap (λ (o : Option Place). is_some o) found, now ∙ ap (λ (es : Places). lru_cache es old.cap) (not_promoted leaf old.entries found))
 
-pub was_absent : (leaf : Leaf) (old new : Held) (there : Bool) (o : Option Place) → IsUsed o leaf old new there → there ≡ false → o ≡ None
+pub was_absent : (leaf : Leaf) (old new : Held) (there : Bool) (o : Option Place) → IsTouched o leaf old new there → there ≡ false → o ≡ None
 was_absent leaf old new there (Some place) u is = let clash : true ≡ false = sym u.0 ∙ is in cc
 was_absent leaf old new there None u is = refl
 
-pub was_there : (leaf : Leaf) (old new : Held) (there : Bool) (o : Option Place) → IsUsed o leaf old new there → there ≡ true → is_some o ≡ true
+pub was_there : (leaf : Leaf) (old new : Held) (there : Bool) (o : Option Place) → IsTouched o leaf old new there → there ≡ true → is_some o ≡ true
 was_there leaf old new there (Some place) u is = refl
 was_there leaf old new there None u is = let clash : false ≡ true = sym u.0 ∙ is in absurd cc
 
-pub left_alone : (leaf : Leaf) (old new : Held) (there : Bool) (o : Option Place) → IsUsed o leaf old new there → there ≡ false → new ≡ old
+pub left_alone : (leaf : Leaf) (old new : Held) (there : Bool) (o : Option Place) → IsTouched o leaf old new there → there ≡ false → new ≡ old
 left_alone leaf old new there (Some place) u is = let clash : true ≡ false = sym u.0 ∙ is in absurd cc
 left_alone leaf old new there None u is = u.1
 

@@ -11,7 +11,7 @@ use Rattle.objstore.specs.Omap.{Omap}
 use Rattle.cached_frag.specs.declared.marks.Mark.{Mark}
 use Rattle.cached_frag.specs.Cached.{Cached, marked}
 use Rattle.dentry_cache.specs.Cache.{IsThere, Leaf, leaf_is}
-use Rattle.dentry_cache.specs.CacheCalls.{Edits, FetchesAt, IsWhole, KeepsNone, MakesRoomAt, Rewrites}
+use Rattle.dentry_cache.specs.CacheCalls.{Edits, FetchesAt, HasNoKeptPlace, KeepsNone, MakesRoomAt, Rewrites}
 use Rattle.dentry_cache.specs.CacheMap.{AreCaches, At, CacheMap, IsFree, IsFreeFor, at_rank, edited_as, given_up, has_place, here, order, rewritten, roomy, used_at, with_frag, with_mark}
 use Rattle.dentry_cache.specs.CacheSplits.{AreAbsent, IsChildAt, IsFamilyAt}
 use Rattle.dentry_cache.specs.Reads.{Reads}
@@ -25,7 +25,7 @@ use Rattle.dentry_cache.proofs.StepLaws.{by_edits, by_rewrites, by_room, has_giv
 use Rattle.dentry_cache.proofs.LeafLaws.{leaf_or_apart, one_leaf, same_leaf}
 
 -- a leaf that is used, and is there
-pub whole_used : (c : CacheMap) (r : ℕ) (leaf : Leaf) (s : ℕ) (q : Leaf) → IsThere (here c r leaf) → IsWhole c s q → IsWhole (used_at c r leaf) s q
+pub whole_used : (c : CacheMap) (r : ℕ) (leaf : Leaf) (s : ℕ) (q : Leaf) → IsThere (here c r leaf) → HasNoKeptPlace c s q → HasNoKeptPlace (used_at c r leaf) s q
 whole_used c r leaf s q there whole placed = go (placed_used c r leaf s q placed)
   where
     go : (has_place c s q ≡ true) ⊎ ((s ≡ r) × (q ≡ leaf)) → IsThere (here c s q)
@@ -41,7 +41,7 @@ at_one_rank (Some a) r s f seen is = by (same_or_apart a.rank s)
     by (inl same) = sym (here_free r (Some a) (ap (λ (o : Option Cached). is_some o) seen)) ∙ same
     by (inr apart) = absurd (subst IsThere (ap (λ b. cond b (Some a.frag) None) (is_apart a.rank s apart)) is)
 
-pub whole_with_frag : (c : CacheMap) (r : ℕ) (leaf : Leaf) (f : Cached) (s : ℕ) (q : Leaf) → IsFreeFor c r leaf → IsWhole c s q → IsWhole (with_frag c r leaf f) s q
+pub whole_with_frag : (c : CacheMap) (r : ℕ) (leaf : Leaf) (f : Cached) (s : ℕ) (q : Leaf) → IsFreeFor c r leaf → HasNoKeptPlace c s q → HasNoKeptPlace (with_frag c r leaf f) s q
 whole_with_frag c r leaf f s q free whole placed = go (placed_used c r leaf s q placed)
   where
     of_rank : (o : Option At) → IsFree r o → IsThere (at_rank s o) → r ≡ s
@@ -62,7 +62,7 @@ whole_with_frag c r leaf f s q free whole placed = go (placed_used c r leaf s q 
     go (inl before) = subst IsThere (sym (here_with_frag c r leaf f s q)) (still (leaf_is q leaf) refl (whole before))
     go (inr one) = subst (λ (k : ℕ). IsThere (here (with_frag c r leaf f) k q)) (sym one.0) (subst (λ (l : Leaf). IsThere (here (with_frag c r leaf f) r l)) (sym one.1) (subst IsThere (sym (here_put c r leaf f)) tt))
 
-pub whole_given_up : (c : CacheMap) (r : ℕ) (leaf : Leaf) (s : ℕ) (q : Leaf) → r < length c.used → IsDistinct leaf_is (order c r) → IsWhole c s q → IsWhole (given_up c r leaf) s q
+pub whole_given_up : (c : CacheMap) (r : ℕ) (leaf : Leaf) (s : ℕ) (q : Leaf) → r < length c.used → IsDistinct leaf_is (order c r) → HasNoKeptPlace c s q → HasNoKeptPlace (given_up c r leaf) s q
 whole_given_up c r leaf s q there distinct whole placed =
     subst IsThere (sym (here_given_up c r leaf s q))
     (still (r == s) (leaf_is q leaf) (sym (has_given_up c r leaf s q there distinct) ∙ placed) (whole (placed_given_up c r leaf s q placed)))
@@ -73,11 +73,11 @@ whole_given_up c r leaf s q there distinct whole placed =
     still false true is whole = whole
     still false false is whole = whole
 
-pub whole_roomy : (c mid : CacheMap) (r : ℕ) (stay : Option Leaf) (s : ℕ) (q : Leaf) → r < length c.used → IsDistinct leaf_is (order c r) → roomy c r stay ≡ Some mid → IsWhole c s q → IsWhole mid s q
-whole_roomy c mid r stay s q there distinct made whole = by_room c mid r stay made (λ (k : CacheMap). IsWhole k s q) whole (λ v passes. whole_given_up c r v s q there distinct whole)
+pub whole_roomy : (c mid : CacheMap) (r : ℕ) (stay : Option Leaf) (s : ℕ) (q : Leaf) → r < length c.used → IsDistinct leaf_is (order c r) → roomy c r stay ≡ Some mid → HasNoKeptPlace c s q → HasNoKeptPlace mid s q
+whole_roomy c mid r stay s q there distinct made whole = by_room c mid r stay made (λ (k : CacheMap). HasNoKeptPlace k s q) whole (λ v passes. whole_given_up c r v s q there distinct whole)
 
 -- a fragment that is there is another where it stands
-pub whole_rewritten : (c : CacheMap) (r : ℕ) (leaf : Leaf) (f now : Cached) (s : ℕ) (q : Leaf) → here c r leaf ≡ Some f → IsWhole c s q → IsWhole (rewritten c r leaf now) s q
+pub whole_rewritten : (c : CacheMap) (r : ℕ) (leaf : Leaf) (f now : Cached) (s : ℕ) (q : Leaf) → here c r leaf ≡ Some f → HasNoKeptPlace c s q → HasNoKeptPlace (rewritten c r leaf now) s q
 whole_rewritten c r leaf f now s q seen whole placed = subst IsThere (sym (here_with_frag c r leaf now s q)) (still (leaf_is q leaf) refl (whole placed))
   where
     still : (b : Bool) → leaf_is q leaf ≡ b → IsThere (here c s q) → IsThere (cond b (cond (r == s) (Some now) None) (here c s q))
@@ -128,24 +128,24 @@ none_fetched old new r leaf stay object false there valid none seen f =
 -- ---- reads keep places for leaves alone that they name
 
 module _ (Uses Ends : ℕ → Leaf → Type 0) (objects : Objects) (old : CacheMap) (valid : AreCaches old) (ranks : (r : ℕ) (leaf : Leaf) → Uses r leaf → r < length old.used) (ended : (r : ℕ) (leaf : Leaf) → Ends r leaf → r < length old.used)
-    (whole : (s : ℕ) (q : Leaf) → IsWhole old s q ⊎ Uses s q) where
+    (whole : (s : ℕ) (q : Leaf) → HasNoKeptPlace old s q ⊎ Uses s q) where
   -- where one of the steps leaves what is whole, or names it
-  then_whole : (c new : CacheMap) (s : ℕ) (q : Leaf) → (IsWhole c s q → IsWhole new s q) → IsWhole c s q ⊎ Uses s q → IsWhole new s q ⊎ Uses s q
+  then_whole : (c new : CacheMap) (s : ℕ) (q : Leaf) → (HasNoKeptPlace c s q → HasNoKeptPlace new s q) → HasNoKeptPlace c s q ⊎ Uses s q → HasNoKeptPlace new s q ⊎ Uses s q
   then_whole c new s q so (inl is) = inl (so is)
   then_whole c new s q so (inr named) = inr named
 
-  pub reads_whole : (new : CacheMap) → Reads Uses Ends objects old new → (s : ℕ) (q : Leaf) → IsWhole new s q ⊎ Uses s q
+  pub reads_whole : (new : CacheMap) → Reads Uses Ends objects old new → (s : ℕ) (q : Leaf) → HasNoKeptPlace new s q ⊎ Uses s q
   reads_whole _ it_stays s q = whole s q
   reads_whole _ (uses mid r leaf before named) s q = go (same_or_apart s r) (leaf_or_apart q leaf) (reads_whole mid before s q)
     where
-      beside : ((s ≡ r) × (q ≡ leaf) → ⊥) → IsWhole mid s q → IsWhole (used_at mid r leaf) s q
+      beside : ((s ≡ r) × (q ≡ leaf) → ⊥) → HasNoKeptPlace mid s q → HasNoKeptPlace (used_at mid r leaf) s q
       beside apart is placed = by (placed_used mid r leaf s q placed)
         where
           by : (has_place mid s q ≡ true) ⊎ ((s ≡ r) × (q ≡ leaf)) → IsThere (here mid s q)
           by (inl was) = is was
           by (inr one) = absurd (apart one)
 
-      go : (s ≡ r) ⊎ (s ≡ r → ⊥) → (q ≡ leaf) ⊎ (leaf_is q leaf ≡ false) → IsWhole mid s q ⊎ Uses s q → IsWhole (used_at mid r leaf) s q ⊎ Uses s q
+      go : (s ≡ r) ⊎ (s ≡ r → ⊥) → (q ≡ leaf) ⊎ (leaf_is q leaf ≡ false) → HasNoKeptPlace mid s q ⊎ Uses s q → HasNoKeptPlace (used_at mid r leaf) s q ⊎ Uses s q
       go (inl rank) (inl one) was = inr (subst (λ (k : ℕ). Uses k q) (sym rank) (subst (Uses r) (sym one) named))
       go (inl rank) (inr apart) was = then_whole mid (used_at mid r leaf) s q (beside (λ both. let clash : true ≡ false = sym (same_leaf q leaf both.1) ∙ apart in absurd cc)) was
       go (inr other) either was = then_whole mid (used_at mid r leaf) s q (beside (λ both. other both.0)) was
@@ -172,10 +172,10 @@ module _ (r : ℕ) (dir : Ino) (frag : Fragment) (bits : ℕ) (objects : Objects
   child_ranks s q child = subst (λ (k : ℕ). k < length old.used) (sym child.0) there
 
   -- places are kept for the children alone
-  pub readies_whole : (s : ℕ) (q : Leaf) → IsWhole new s q ⊎ IsChildAt r dir frag bits s q
+  pub readies_whole : (s : ℕ) (q : Leaf) → HasNoKeptPlace new s q ⊎ IsChildAt r dir frag bits s q
   readies_whole s q = go (reads_whole (IsFamilyAt r dir frag bits) (IsChildAt r dir frag bits) objects old valid family_ranks child_ranks (λ s q. inl (none s q)) new reads s q)
     where
-      go : IsWhole new s q ⊎ IsFamilyAt r dir frag bits s q → IsWhole new s q ⊎ IsChildAt r dir frag bits s q
+      go : HasNoKeptPlace new s q ⊎ IsFamilyAt r dir frag bits s q → HasNoKeptPlace new s q ⊎ IsChildAt r dir frag bits s q
       go (inl is) = inl is
       go (inr (inl it)) = inl (λ placed. subst (λ (k : ℕ). IsThere (here new k q)) (sym it.0) (subst (λ (l : Leaf). IsThere (here new r l)) (sym it.1) stays))
       go (inr (inr child)) = inr child
@@ -184,7 +184,7 @@ module _ (r : ℕ) (dir : Ino) (frag : Fragment) (bits : ℕ) (objects : Objects
   pub refused_whole : AreAbsent new r dir frag bits → KeepsNone new
   refused_whole absent s q placed = go (readies_whole s q)
     where
-      go : IsWhole new s q ⊎ IsChildAt r dir frag bits s q → IsThere (here new s q)
+      go : HasNoKeptPlace new s q ⊎ IsChildAt r dir frag bits s q → IsThere (here new s q)
       go (inl is) = is placed
       go (inr child) =
           let clash : true ≡ false = sym placed ∙ ap (λ (k : ℕ). has_place new k q) child.0 ∙ ap (has_place new r) child.3 ∙ (absent child.1 child.2).0 in absurd cc

@@ -8,7 +8,7 @@ pub use Rattle.mds_types.specs.Leaf.{Leaf, leaf_cmp, leaf_is}
 use Rattle.cached_frag.specs.declared.bases.Base.{Base}
 use Rattle.cached_frag.specs.declared.bases.Base.TheVariants.{Fresh}
 use Rattle.cached_frag.specs.Marks.{Marks}
-use Rattle.cached_frag.specs.Cached.{Cached, is_clean, shown}
+use Rattle.cached_frag.specs.Cached.{Cached, is_clean, shown_names}
 use Rattle.dentry_cache.specs.declared.cache.Place.{Place}
 
 -- the places, the most recently used first, and how many there may be
@@ -32,13 +32,13 @@ abbrev pub is_evictable : Place → Bool
 is_evictable place = not place.kept && is_clean place.frag
 
 -- whether a leaf is the one that is to stay
-abbrev pub stays : Option Leaf → Leaf → Bool
-stays None leaf = false
-stays (Some one) leaf = leaf_is one leaf
+abbrev pub is_to_stay : Option Leaf → Leaf → Bool
+is_to_stay None leaf = false
+is_to_stay (Some one) leaf = leaf_is one leaf
 
 -- whether a fragment may go, while another one is to stay
 abbrev pub may_go : Option Leaf → Leaf × Place → Bool
-may_go stay e = is_evictable e.1 && not (stays stay e.0)
+may_go stay e = is_evictable e.1 && not (is_to_stay stay e.0)
 
 -- none of these may go
 abbrev pub NoneGoes : Option Leaf → Places → Type 0
@@ -127,7 +127,7 @@ HasCached (Some f) P = P f
 -- a fragment that is there shows a name
 abbrev pub shows_in : Option Cached → List ℕ → Bool
 shows_in None name = false
-shows_in (Some f) name = is_some (finmap.get (shown f) name)
+shows_in (Some f) name = is_some (finmap.get (shown_names f) name)
 
 -- the fragment of a leaf was changed so, and is the most recently used; the other places are as they were
 abbrev pub IsChanged : Option Cached → (Cached → Cached → Type 0) → Leaf → Held → Held → Type 0
@@ -141,9 +141,9 @@ IsWritten (Some f) Change leaf old new =
     (now : Cached) × Change f now × (new ≡ lru_cache (set_value (leaf_is leaf) old.entries (held now)) old.cap)
 
 -- the place of a leaf is the most recently used; a leaf that has none changes nothing
-abbrev pub IsUsed : Option Place → Leaf → Held → Held → Bool → Type 0
-IsUsed (Some place) leaf old new there = (there ≡ true) × (new ≡ used_as leaf place old)
-IsUsed None leaf old new there = (there ≡ false) × (new ≡ old)
+abbrev pub IsTouched : Option Place → Leaf → Held → Held → Bool → Type 0
+IsTouched (Some place) leaf old new there = (there ≡ true) × (new ≡ used_as leaf place old)
+IsTouched None leaf old new there = (there ≡ false) × (new ≡ old)
 
 -- ---- what isn't clean
 

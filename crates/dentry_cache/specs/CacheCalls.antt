@@ -27,12 +27,12 @@ abbrev pub Rewrites : (Cached → Cached → Type 0) → ℕ → Leaf → (old n
 Rewrites Change r leaf old new = IsRewritten Change r leaf (here old r leaf) old new
 
 -- no place is kept at a rank for a fragment of this leaf that will be made: where it has a place, its fragment is in it
-abbrev pub IsWhole : CacheMap → ℕ → Leaf → Type 0
-IsWhole c r leaf = has_place c r leaf ≡ true → IsThere (here c r leaf)
+abbrev pub HasNoKeptPlace : CacheMap → ℕ → Leaf → Type 0
+HasNoKeptPlace c r leaf = has_place c r leaf ≡ true → IsThere (here c r leaf)
 
 -- so it is with each leaf at each rank
 abbrev pub KeepsNone : CacheMap → Type 0
-KeepsNone c = (r : ℕ) (leaf : Leaf) → IsWhole c r leaf
+KeepsNone c = (r : ℕ) (leaf : Leaf) → HasNoKeptPlace c r leaf
 
 -- a leaf has no place at a rank, and its fragment is at none
 abbrev pub IsAbsent : CacheMap → ℕ → Leaf → Type 0

@@ -11,15 +11,15 @@ use Rattle.cached_frag.specs.declared.marks.Mark.{Mark}
 use Rattle.cached_frag.specs.Cached.{Cached, is_clean, marked}
 use Rattle.mds_types.specs.declared.dirfrags.Dirfrag.{Dirfrag}
 use Rattle.dentry_cache.specs.Places.{IsCache}
-use Rattle.dentry_cache.specs.Cache.{Held, Leaf, Unsaved, cached, leaf_cmp, leaf_is, stays, unsaved_in}
+use Rattle.dentry_cache.specs.Cache.{Held, Leaf, Unsaved, cached, leaf_cmp, leaf_is, is_to_stay, unsaved_in}
 
 -- a fragment, and the rank that has it
 pub record At : Type 0 where
   pub rank : ℕ
   pub frag : Cached
 
-abbrev pub at : ℕ → Cached → At
-at r f = record { rank = r; frag = f }
+abbrev pub lies_by : ℕ → Cached → At
+lies_by r f = record { rank = r; frag = f }
 
 -- the cached fragment of each leaf with its rank, each rank's leaves, the most recently used first, and how many places
 -- each rank has. A place that is kept for a fragment which will be made stands in the order of its rank alone
@@ -37,8 +37,8 @@ abbrev pub here : CacheMap → ℕ → Leaf → Option Cached
 here c r leaf = at_rank r (finmap.get c.held leaf)
 
 -- the fragment that lies somewhere
-abbrev pub frag_of : CacheMap → Dirfrag → Option Cached
-frag_of c at = here c at.rank.0 (leaf_of at)
+abbrev pub cached_at : CacheMap → Dirfrag → Option Cached
+cached_at c lies_by = here c lies_by.rank.0 (leaf_of lies_by)
 
 -- no other rank has it
 abbrev pub IsFree : ℕ → Option At → Type 0
@@ -60,23 +60,23 @@ abbrev pub less : Leaf → List Leaf → List Leaf
 less leaf [] = []
 less leaf (x ∷ xs) = cond (leaf_is leaf x) xs (x ∷ less leaf xs)
 
-abbrev pub first : Leaf → List Leaf → List Leaf
-first leaf xs = leaf ∷ less leaf xs
+abbrev pub moved_first : Leaf → List Leaf → List Leaf
+moved_first leaf xs = leaf ∷ less leaf xs
 
 -- ---- the four steps
 
 -- a leaf's place at a rank is the most recently used
 abbrev pub used_at : CacheMap → ℕ → Leaf → CacheMap
-used_at c r leaf = record c { used = set c.used r (first leaf (order c r)) }
+used_at c r leaf = record c { used = set c.used r (moved_first leaf (order c r)) }
 
 -- a rank has this fragment, as the most recently used
 abbrev pub with_frag : CacheMap → ℕ → Leaf → Cached → CacheMap
 with_frag c r leaf f =
-    record { held = finmap.insert c.held leaf (at r f); used = set c.used r (first leaf (order c r)); cap = c.cap }
+    record { held = finmap.insert c.held leaf (lies_by r f); used = set c.used r (moved_first leaf (order c r)); cap = c.cap }
 
 -- a rank's fragment of a leaf is this one now; the order of use stays
 abbrev pub rewritten : CacheMap → ℕ → Leaf → Cached → CacheMap
-rewritten c r leaf f = record c { held = finmap.insert c.held leaf (at r f) }
+rewritten c r leaf f = record c { held = finmap.insert c.held leaf (lies_by r f) }
 
 abbrev pub removed : finmap.FinMap leaf_cmp At → Leaf → Option Cached → finmap.FinMap leaf_cmp At
 removed m leaf (Some f) = finmap.remove m leaf
@@ -106,7 +106,7 @@ clean_in (Some f) = is_clean f
 clean_in None = false
 
 abbrev pub goes : CacheMap → ℕ → Option Leaf → Leaf → Bool
-goes c r stay leaf = clean_in (here c r leaf) && not (stays stay leaf)
+goes c r stay leaf = clean_in (here c r leaf) && not (is_to_stay stay leaf)
 
 -- the last that passes a test
 abbrev pub or_this : {A : Type 0} → Option A → Option A → Option A
@@ -166,7 +166,7 @@ abbrev pub frag_at : List Held → ℕ → Leaf → Option Cached
 frag_at cs r leaf = cached (get_or cs r no_cache).entries leaf
 
 abbrev pub or_later : ℕ → Option Cached → Option At → Option At
-or_later n (Some f) o = Some (at n f)
+or_later n (Some f) o = Some (lies_by n f)
 or_later n None o = o
 
 -- where a leaf's fragment is found, from this rank on

@@ -2,7 +2,7 @@
 use Rattle.std.specs.Prelude.{◌≡◌, ◌⊎◌, ℕ, zero, suc, ◌+◌, ◌<◌, ◌≤◌, ◌^◌, true, length, List, [], ◌∷◌, Some, None}
 use Rattle.std.specs.FinMap as finmap
 use Rattle.objstore.specs.Objects.{Objects}
-use Rattle.cached_frag.specs.Cached.{Cached, shown}
+use Rattle.cached_frag.specs.Cached.{Cached, shown_names}
 use Rattle.mds_types.specs.Frag.{Fragment, child_of}
 use Rattle.mds_types.specs.declared.ids.Ino.{Ino}
 use Rattle.mds_types.specs.declared.refusals.Refusal.{Refusal}
@@ -12,7 +12,7 @@ use Rattle.dentry_cache.specs.Cache.{HasCached, Leaf, Unsaved, leaf_cmp, unsaved
 use Rattle.dentry_cache.specs.CacheCalls.{CanKeep, CanNotKeep, IsAbsent, KeepsAt, Rewrites, kept_at, unclean_at}
 use Rattle.dentry_cache.specs.CacheMap.{CacheMap, given_up, has_place, here, roomy, with_frag}
 use Rattle.dentry_cache.specs.Divided.{AreChildren, AreReady}
-use Rattle.dentry_cache.specs.Parting.{AreApart}
+use Rattle.dentry_cache.specs.Parting.{AreKeptApart}
 use Rattle.dentry_cache.specs.Reads.{Reads}
 
 -- a place is kept at a rank for a leaf's fragment that will be made
@@ -28,8 +28,8 @@ abbrev pub IsFamilyAt : ℕ → Ino → Fragment → ℕ → ℕ → Leaf → Ty
 IsFamilyAt r dir frag bits s q = ((s ≡ r) × (q ≡ (dir, frag))) ⊎ IsChildAt r dir frag bits s q
 
 -- each child has a kept place; none has a place, or a fragment at any rank
-abbrev pub AreKept : CacheMap → ℕ → Ino → Fragment → ℕ → Type 0
-AreKept c r dir frag bits = (i : ℕ) → i < 2 ^ bits → IsKeptFor c r (dir, child_of frag i bits)
+abbrev pub HaveKeptPlaces : CacheMap → ℕ → Ino → Fragment → ℕ → Type 0
+HaveKeptPlaces c r dir frag bits = (i : ℕ) → i < 2 ^ bits → IsKeptFor c r (dir, child_of frag i bits)
 
 abbrev pub AreAbsent : CacheMap → ℕ → Ino → Fragment → ℕ → Type 0
 AreAbsent c r dir frag bits = (i : ℕ) → i < 2 ^ bits → IsAbsent c r (dir, child_of frag i bits)
@@ -44,7 +44,7 @@ StaysAt r leaf old new = HasCached (here old r leaf) (λ (f : Cached). HasCached
 
 -- a fragment is ready to give its names away, and these are its children, each with room for its names
 abbrev pub IsReadyToSplit : Fragment → ℕ → List Part → Cached → Type 0
-IsReadyToSplit frag bits parts f = (finmap.len f.dirty ≤ f.places) × AreReady frag bits (shown f) parts
+IsReadyToSplit frag bits parts f = (finmap.len f.dirty ≤ f.places) × AreReady frag bits (shown_names f) parts
 
 -- so of the fragment of a leaf at a rank
 abbrev pub IsReadyAt : ℕ → Ino → Fragment → ℕ → CacheMap → List Part → Type 0
@@ -116,14 +116,14 @@ with_parts dir r (part ∷ parts) c = with_parts dir r parts (with_frag c r (dir
 abbrev pub AreFillable : ℕ → Ino → List Part → CacheMap → Type 0
 AreFillable r dir [] c = Unit {0}
 AreFillable r dir (part ∷ parts) c =
-    IsKeptFor c r (dir, part.frag) × AreApart (dir, part.frag) dir parts × AreFillable r dir parts c
+    IsKeptFor c r (dir, part.frag) × AreKeptApart (dir, part.frag) dir parts × AreFillable r dir parts c
 
 -- a fragment was split at its rank: its place is given up, and its children stand in theirs, with its names dirty at
 -- this version
 abbrev pub SplitsAt : ℕ → Ino → Fragment → ℕ → List Part → ℕ → (old new : CacheMap) → Cached → Type 0
 SplitsAt r dir frag bits parts version old new f =
     (made : List Part)
-    × AreChildren frag bits (shown f) version parts made
+    × AreChildren frag bits (shown_names f) version parts made
     × (new ≡ with_parts dir r made (given_up old r (dir, frag)))
 
 -- so it was with the fragment that a leaf had there

@@ -11,8 +11,8 @@ use Rattle.dentry_cache.specs.Candidates.{Sizes, child, size_in}
 -- ---- leaves in their order
 
 -- whether a leaf is one of these
-abbrev pub is_in : Leaf → List Leaf → Bool
-is_in leaf leaves = list_any (leaf_is leaf) leaves
+abbrev pub is_leaf_in : Leaf → List Leaf → Bool
+is_leaf_in leaf leaves = list_any (leaf_is leaf) leaves
 
 -- a leaf is less than each of these
 abbrev pub IsBelow : Leaf → List Leaf → Type 0
@@ -25,11 +25,11 @@ Rise [] = Unit {0}
 Rise (x ∷ xs) = IsBelow x xs × Rise xs
 
 -- a leaf would go to this place: those before it are less, and those from it on are greater
-abbrev pub IsGap : Leaf → List Leaf → ℕ → Type 0
-IsGap leaf [] zero = Unit {0}
-IsGap leaf [] (suc i) = ⊥
-IsGap leaf (x ∷ xs) zero = (leaf_cmp leaf x ≡ Less) × IsBelow leaf xs
-IsGap leaf (x ∷ xs) (suc i) = (leaf_cmp x leaf ≡ Less) × IsGap leaf xs i
+abbrev pub IsLeafGap : Leaf → List Leaf → ℕ → Type 0
+IsLeafGap leaf [] zero = Unit {0}
+IsLeafGap leaf [] (suc i) = ⊥
+IsLeafGap leaf (x ∷ xs) zero = (leaf_cmp leaf x ≡ Less) × IsBelow leaf xs
+IsLeafGap leaf (x ∷ xs) (suc i) = (leaf_cmp x leaf ≡ Less) × IsLeafGap leaf xs i
 
 -- it stands at this place
 abbrev pub StandsAt : Leaf → List Leaf → ℕ → Type 0
@@ -38,8 +38,8 @@ StandsAt leaf (x ∷ xs) zero = x ≡ leaf
 StandsAt leaf (x ∷ xs) (suc i) = StandsAt leaf xs i
 
 -- the place of a leaf, or where it would go
-abbrev pub IsSpot : Leaf → List Leaf → Result ℕ ℕ → Type 0
-IsSpot leaf leaves r = MatchResult r (StandsAt leaf leaves) (IsGap leaf leaves)
+abbrev pub IsLeafSpot : Leaf → List Leaf → Result ℕ ℕ → Type 0
+IsLeafSpot leaf leaves r = MatchResult r (StandsAt leaf leaves) (IsLeafGap leaf leaves)
 
 -- from this place on each leaf is behind this one, and none before it is
 abbrev pub IsPlaceBehind : Leaf → List Leaf → ℕ → Type 0
@@ -81,9 +81,9 @@ are_few sizes whole = is_few (together sizes whole 8)
 pub record AreSets (sizes : Sizes) (large small : List Leaf) : Type 0 where
   pub large_rise : Rise large
   pub small_rise : Rise small
-  pub large_are : (leaf : Leaf) → is_in leaf large ≡ is_large leaf (sizes leaf)
-  pub small_are : (whole : Leaf) → IsFragment whole.1 → is_in whole small ≡ are_few sizes whole
-  pub fragments : (whole : Leaf) → is_in whole small ≡ true → IsFragment whole.1
+  pub large_are : (leaf : Leaf) → is_leaf_in leaf large ≡ is_large leaf (sizes leaf)
+  pub small_are : (whole : Leaf) → IsFragment whole.1 → is_leaf_in whole small ≡ are_few sizes whole
+  pub fragments : (whole : Leaf) → is_leaf_in whole small ≡ true → IsFragment whole.1
 
 abbrev pub AreCandidates : Sizes → Candidates → Type 0
 AreCandidates sizes c = AreSets sizes c.large.leaves.items c.small.leaves.items

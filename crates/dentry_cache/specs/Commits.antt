@@ -11,7 +11,7 @@ use Rattle.mds_types.specs.Leaf.{Leaf}
 use Rattle.cached_frag.specs.Snap.{IsBelowEnd, Snap, next_version}
 use Rattle.mds_types.specs.declared.refusals.Refusal.{Refusal}
 use Rattle.mds_types.specs.declared.refusals.Refusal.TheVariants.{NoInodes, NoMemory}
-use Rattle.cached_frag.specs.Cached.{Cached, is_clean, shown, snapshot_of, unsettled}
+use Rattle.cached_frag.specs.Cached.{Cached, is_clean, shown_names, snapshot_of, unsettled}
 
 -- the text that names a leaf's object
 abbrev pub leaf_text : Ino → Fragment → List ℕ
@@ -22,9 +22,9 @@ abbrev pub job_leaf : Carried → Leaf
 job_leaf encoded = (encoded.job.ino, encoded.job.frag)
 
 -- nothing is taken of a clean fragment; of any other its base, its dirty names and its entry counts
-abbrev pub Takes : Option Snap → Cached → Type 0
-Takes None f = is_clean f ≡ true
-Takes (Some snapshot) f = (is_clean f ≡ false) × (snapshot ≡ snapshot_of f)
+abbrev pub TakesSnap : Option Snap → Cached → Type 0
+TakesSnap None f = is_clean f ≡ true
+TakesSnap (Some snapshot) f = (is_clean f ≡ false) × (snapshot ≡ snapshot_of f)
 
 -- why nothing is taken of a fragment that isn't clean: no version is left, or else want of memory
 abbrev pub MayNotBegin : Refusal → Cached → Type 0
@@ -33,12 +33,12 @@ MayNotBegin refusal f = (is_clean f ≡ false) × (((refusal ≡ NoInodes) × (I
 
 -- a fragment whose object has these names at their versions, and is at this commit version: exactly those names became
 -- clean whose last change the object has, and it shows what it showed
-pub record IsSettled (names : Marks) (version : ℕ) (f now : Cached) : Type 0 where
+pub record IsCleanedOf (names : Marks) (version : ℕ) (f now : Cached) : Type 0 where
   pub based : now.base ≡ Stored version
   pub generation : now.generation ≡ f.generation
   pub dirty : now.dirty ≡ unsettled f.dirty names
-  pub shown : shown now ≡ shown f
+  pub shown_names : shown_names now ≡ shown_names f
 
 -- a fragment whose snapshot was committed
 abbrev pub IsCommitted : Snap → Cached → Cached → Type 0
-IsCommitted snapshot f now = IsSettled snapshot.names (next_version snapshot.base) f now
+IsCommitted snapshot f now = IsCleanedOf snapshot.names (next_version snapshot.base) f now

@@ -9,7 +9,7 @@ use Rattle.mds_types.specs.declared.inodes.Inode.{Inode}
 use Rattle.namehash.specs.Rjenkins.{hash_of}
 use Rattle.dirfrag_codec.specs.FragmentObject.{Names}
 use Rattle.cached_frag.specs.declared.bases.Base.TheVariants.{Fresh}
-use Rattle.cached_frag.specs.Cached.{Cached, shown}
+use Rattle.cached_frag.specs.Cached.{Cached, shown_names}
 use Rattle.cached_frag.specs.Moving.{marked_as}
 use Rattle.dentry_cache.specs.Loading.{AreWithin}
 use Rattle.dentry_cache.specs.Pairs.{holds}
@@ -22,10 +22,10 @@ names_in frag names = map.retain_keys names (λ name. holds frag (hash_of name))
 
 -- a child of a fragment that was split: no object of its name counts, it shows the names that it contains, and each of
 -- them is dirty at this version
-pub record IsChild (child : Fragment) (names : Names) (number version : ℕ) (now : Cached) : Type 0 where
+pub record IsCachedChild (child : Fragment) (names : Names) (number version : ℕ) (now : Cached) : Type 0 where
   pub fresh : now.base ≡ Fresh
   pub numbered : now.generation ≡ number
-  pub shows : shown now ≡ names_in child names
+  pub shows : shown_names now ≡ names_in child names
   pub dirty : (name : List ℕ) → map.get now.dirty name ≡ marked_as version (map.get (names_in child names) name) None
 
 -- ---- the children that a split will make
@@ -36,7 +36,7 @@ bare generation room =
     record { base = Fresh; generation = generation; clean = map.empty; dirty = map.empty; room = room; places = 0 }
 
 -- a child that is ready for the names that it will show: with none yet, and with room for each
-pub record IsReady (frag : Fragment) (nb : ℕ) (names : Names) (i : ℕ) (part : Part) : Type 0 where
+pub record IsReadyPart (frag : Fragment) (nb : ℕ) (names : Names) (i : ℕ) (part : Part) : Type 0 where
   pub child : part.frag ≡ child_of frag i nb
   pub none : part.fragment ≡ bare part.fragment.generation part.fragment.room
   pub room : map.len (names_in (child_of frag i nb) names) ≤ part.fragment.room
@@ -44,7 +44,7 @@ pub record IsReady (frag : Fragment) (nb : ℕ) (names : Names) (i : ℕ) (part 
 -- all children of a fragment, in order, each of them ready
 pub record AreReady (frag : Fragment) (nb : ℕ) (names : Names) (parts : List Part) : Type 0 where
   pub count : length parts ≡ 2 ^ nb
-  pub each : (i : ℕ) (d : Part) → i < length parts → IsReady frag nb names i (slice_index_or parts i d)
+  pub each : (i : ℕ) (d : Part) → i < length parts → IsReadyPart frag nb names i (slice_index_or parts i d)
 
 -- their generations are numbers that follow one another
 abbrev pub AreNumbered : ℕ → List Part → Type 0
@@ -62,7 +62,7 @@ pub record AreChildren (frag : Fragment) (nb : ℕ) (names : Names) (version : �
   pub count : length made ≡ length ready
   pub child : (i : ℕ) (d : Part) → i < length made → (slice_index_or made i d).frag ≡ child_of frag i nb
   pub each : (i : ℕ) (d : Part) → i < length made
-      → IsChild (child_of frag i nb) names (slice_index_or ready i d).fragment.generation version
+      → IsCachedChild (child_of frag i nb) names (slice_index_or ready i d).fragment.generation version
       (slice_index_or made i d).fragment
 
 -- these fragments in their places, each the most recently used when it comes in
@@ -76,14 +76,14 @@ IsNoChild dir frag nb leaf = (i : ℕ) → i < 2 ^ nb → leaf_is (dir, child_of
 
 -- a fragment was split: it is gone, its children are there with its names, the last one the most recently used, and the
 -- other places are as they were
-pub record IsSplit (dir : Ino) (frag : Fragment) (nb : ℕ) (parts : List Part) (version : ℕ) (names : Names)
+pub record DividesInto (dir : Ino) (frag : Fragment) (nb : ℕ) (parts : List Part) (version : ℕ) (names : Names)
     (old new : Held) : Type 0 where
   pub made : List Part
   pub divided : AreChildren frag nb names version parts made
   pub order : new ≡ filled dir made (without (dir, frag) old)
   pub children : (i : ℕ) (d : Part) → i < 2 ^ nb
       → HasCached (cached new.entries (dir, child_of frag i nb))
-      (IsChild (child_of frag i nb) names (slice_index_or parts i d).fragment.generation version)
+      (IsCachedChild (child_of frag i nb) names (slice_index_or parts i d).fragment.generation version)
   pub gone : lookup (leaf_is (dir, frag)) new.entries ≡ None
   pub others : (leaf : Leaf) → leaf_is (dir, frag) leaf ≡ false → IsNoChild dir frag nb leaf
       → lookup (leaf_is leaf) new.entries ≡ lookup (leaf_is leaf) old.entries

@@ -57,8 +57,8 @@ without_all c r (leaf ∷ leaves) = given_up (without_all c r leaves) r leaf
 
 -- a rank handed leaves over to another: a place was kept for each that isn't clean, then each went there, and those
 -- that are clean are cached no more
-abbrev pub HandsOver : ℕ → ℕ → List Leaf → List Leaf → (old new : CacheMap) → Type 0
-HandsOver from to leaves clean old new =
+abbrev pub HandsFragmentsOver : ℕ → ℕ → List Leaf → List Leaf → (old new : CacheMap) → Type 0
+HandsFragmentsOver from to leaves clean old new =
     (mid : CacheMap) × (kept_all old to leaves ≡ Some mid)
     × (new ≡ without_all (moved_all mid from to leaves) from clean)
 

@@ -12,10 +12,10 @@ use Rattle.dirfrag_codec.specs.declared.headers.FragHeader.{FragHeader}
 use Rattle.dirfrag_codec.specs.FragHeader.{SpellsHeader}
 use Rattle.dirfrag_codec.specs.Grammar.{Decodes}
 use Rattle.cached_frag.specs.Snap.{counts_of}
-use Rattle.cached_frag.specs.Cached.{Cached, shown}
+use Rattle.cached_frag.specs.Cached.{Cached, shown_names}
 use Rattle.namehash.specs.Rjenkins.{hash_of}
-use Rattle.dirfrag_codec.specs.FragmentObject.{Names, with_entry}
-use Rattle.dirfrag_codec.specs.Values.{entry_of, name_of}
+use Rattle.dirfrag_codec.specs.FragmentObject.{Names, with_pair}
+use Rattle.dirfrag_codec.specs.Values.{inode_of_record, name_of_key}
 
 -- whether the fragment contains the hash
 abbrev pub holds : Fragment → ℕ → Bool
@@ -28,12 +28,12 @@ is_good_as frag (Some name) None = false
 is_good_as frag (Some name) (Some inode) = holds frag (hash_of name)
 
 abbrev pub is_good : Fragment → List ℕ × List ℕ → Bool
-is_good frag pair = is_good_as frag (name_of pair.0) (entry_of pair.1)
+is_good frag pair = is_good_as frag (name_of_key pair.0) (inode_of_record pair.1)
 
 -- what is read of a pair
 abbrev pub IsRead : Fragment → List ℕ × List ℕ → Option (List ℕ × Inode) → Type 0
 IsRead frag pair (Some entry) =
-    (is_good frag pair ≡ true) × (name_of pair.0 ≡ Some entry.0) × (entry_of pair.1 ≡ Some entry.1)
+    (is_good frag pair ≡ true) × (name_of_key pair.0 ≡ Some entry.0) × (inode_of_record pair.1 ≡ Some entry.1)
 IsRead frag pair None = is_good frag pair ≡ false
 
 abbrev pub are_good : Fragment → List (List ℕ × List ℕ) → Bool
@@ -42,7 +42,7 @@ are_good frag pairs = list_all (is_good frag) pairs
 -- names with those of more pairs
 abbrev pub added : Names → List (List ℕ × List ℕ) → Names
 added names [] = names
-added names (pair ∷ pairs) = added (with_entry names (name_of pair.0) (entry_of pair.1)) pairs
+added names (pair ∷ pairs) = added (with_pair names (name_of_key pair.0) (inode_of_record pair.1)) pairs
 
 -- the pairs of an object that come after a key; those of all, where none is given
 abbrev pub pairs_left : Option Omap → Option (List ℕ) → List (List ℕ × List ℕ)
@@ -50,11 +50,11 @@ pairs_left None after = []
 pairs_left (Some object) after = pairs_after object.pairs after
 
 -- the names of the pairs of an object; none where it is absent, or a pair is off the grammar or belongs elsewhere
-abbrev pub AreNamesOf : Fragment → Option Omap → Option (Shown (List ℕ) Inode) → Type 0
-AreNamesOf frag object (Some names) =
+abbrev pub ArePairNames : Fragment → Option Omap → Option (Shown (List ℕ) Inode) → Type 0
+ArePairNames frag object (Some names) =
     IsSome object × (are_good frag (pairs_left object None) ≡ true)
     × (contents key_cmp names ≡ added map.empty (pairs_left object None))
-AreNamesOf frag object None = (object ≡ None) ⊎ (are_good frag (pairs_left object None) ≡ false)
+ArePairNames frag object None = (object ≡ None) ⊎ (are_good frag (pairs_left object None) ≡ false)
 
 -- what a page leaves: nothing was read; all was read; or the pairs behind a key are left
 abbrev pub EndsPage : Fragment → Option Omap → Option (List ℕ) → Names → Names → PageEnd → Type 0
@@ -89,7 +89,7 @@ IsHeaderOf None None = Unit {0}
 IsHeaderOf (Some object) header = Decodes SpellsHeader object.header header
 
 -- the fragment, if it has the counts of the header
-abbrev pub IsCounted : Cached → FragHeader → Option Cached → Type 0
-IsCounted f header (Some loaded) =
-    (loaded ≡ f) × (counts_of (shown f) ≡ record { files = header.files; dirs = header.dirs })
-IsCounted f header None = counts_of (shown f) ≡ record { files = header.files; dirs = header.dirs } → ⊥
+abbrev pub HasHeaderCounts : Cached → FragHeader → Option Cached → Type 0
+HasHeaderCounts f header (Some loaded) =
+    (loaded ≡ f) × (counts_of (shown_names f) ≡ record { files = header.files; dirs = header.dirs })
+HasHeaderCounts f header None = counts_of (shown_names f) ≡ record { files = header.files; dirs = header.dirs } → ⊥

@@ -47,6 +47,6 @@ Puts name mark true old now = (now.frag ≡ old.frag) × (now.fragment ≡ marke
 Puts name mark false old now = now ≡ old
 
 -- a place is kept for each of these, and no two of them are one leaf
-abbrev pub AreApart : Leaf → Ino → List Part → Type 0
-AreApart leaf dir [] = Unit {0}
-AreApart leaf dir (part ∷ parts) = (leaf_is leaf (dir, part.frag) ≡ false) × AreApart leaf dir parts
+abbrev pub AreKeptApart : Leaf → Ino → List Part → Type 0
+AreKeptApart leaf dir [] = Unit {0}
+AreKeptApart leaf dir (part ∷ parts) = (leaf_is leaf (dir, part.frag) ≡ false) × AreKeptApart leaf dir parts

@@ -3,7 +3,7 @@ use Rattle.std.specs.Prelude.{◌≡◌, ◌⊎◌, ℕ, false, Option, Some, No
 use Rattle.std.specs.FinMap as finmap
 use Rattle.objstore.specs.Objects.{Objects}
 use Rattle.cached_frag.specs.Cached.{Cached}
-use Rattle.dentry_cache.specs.CacheMap.{At, CacheMap, at, given_up, has_place, here, rewritten, roomy, used_at, with_frag}
+use Rattle.dentry_cache.specs.CacheMap.{At, CacheMap, lies_by, given_up, has_place, here, rewritten, roomy, used_at, with_frag}
 use Rattle.dentry_cache.specs.Came.{StaysNamed}
 use Rattle.dentry_cache.specs.Loading.{Loads, object_of}
 use Rattle.dentry_cache.specs.Cache.{Leaf}
@@ -37,5 +37,5 @@ pub data Reads (Uses Ends : ℕ → Leaf → Type 0) (objects : Objects) (old : 
 -- is read at its rank
 abbrev pub IsReadOf : (ℕ → Leaf → Type 0) → Objects → Leaf → Option At → At → Type 0
 IsReadOf Uses objects q was now =
-    ((f : Cached) × (was ≡ Some (at now.rank f)) × IsButRoom f now.frag)
+    ((f : Cached) × (was ≡ Some (lies_by now.rank f)) × IsButRoom f now.frag)
     ⊎ (Uses now.rank q × (f : Cached) × Loads q.1 (object_of objects q.0 q.1) (Some f) × IsButRoom f now.frag)

@@ -12,14 +12,14 @@ abbrev pub is_unclean : Place → Bool
 is_unclean place = not place.kept && not (is_clean place.frag)
 
 -- the leaves of those fragments, each at this rank
-abbrev pub unclean_in : Rank → Places → List Dirfrag
-unclean_in rank [] = []
-unclean_in rank (e ∷ places) = cond (is_unclean e.1) (record {
+abbrev pub unclean_leaves_in : Rank → Places → List Dirfrag
+unclean_leaves_in rank [] = []
+unclean_leaves_in rank (e ∷ places) = cond (is_unclean e.1) (record {
   dir = e.0.0;
   frag = e.0.1;
   rank =
       rank;
-} ∷ unclean_in rank places) (unclean_in rank places)
+} ∷ unclean_leaves_in rank places) (unclean_leaves_in rank places)
 
 -- the same of leaves in some order, as it is seen in the caches of all ranks
 abbrev pub unclean_among : CacheMap → ℕ → List Leaf → List Dirfrag

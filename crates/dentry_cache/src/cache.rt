@@ -2,7 +2,7 @@
 ghost use Rattle.std.specs.Prelude.{◌≡◌, ◌≤◌, [], length, is_some, IfOk, option_copied};
 ghost use Rattle.std.specs.Map.{lookup};
 ghost use Rattle.lru.specs.LruCache.{lru_cache};
-ghost use Rattle.dentry_cache.specs.Cache.{IsUsed, cached, leaf_is};
+ghost use Rattle.dentry_cache.specs.Cache.{IsTouched, cached, leaf_is};
 ghost use Rattle.dentry_cache.specs.Places.{IsCache};
 
 use crate::candidates::Candidates;
@@ -83,7 +83,7 @@ impl Cache {
 
     /// Makes a leaf's place the most recently used, and tells whether it has one.
     pub fn touch(&mut self, dir: Ino, frag: Frag) -> bool
-        ensures { IsUsed (lookup (leaf_is (dir, frag)) self.old.entries) (dir, frag) self.old self.new result }
+        ensures { IsTouched (lookup (leaf_is (dir, frag)) self.old.entries) (dir, frag) self.old self.new result }
     {
         self.places.touch(&(dir, frag))
     }

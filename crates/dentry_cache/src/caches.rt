@@ -6,14 +6,14 @@ ghost use Rattle.std.specs.Result.{result_err};
 ghost use Rattle.lru.specs.LruCache.{lru_cache};
 ghost use Rattle.dirfrag_codec.specs.EntryRecord.{IsRecordable};
 ghost use Rattle.objstore.specs.Objects.{MayRefuse, faults_told, written};
-ghost use Rattle.dentry_cache.specs.Commits.{IsCommitted, MayNotBegin, Takes, job_leaf, leaf_text};
-ghost use Rattle.cached_frag.specs.Cached.{Cached, shown};
+ghost use Rattle.dentry_cache.specs.Commits.{IsCommitted, MayNotBegin, TakesSnap, job_leaf, leaf_text};
+ghost use Rattle.cached_frag.specs.Cached.{Cached, shown_names};
 ghost use Rattle.cached_frag.specs.Moving.{TakesIn};
 ghost use Rattle.mds_types.specs.declared.refusals.Refusal.TheVariants.{NothingToEvict};
 ghost use Rattle.mds_types.specs.Leaf.{leaf_of};
 ghost use Rattle.dentry_cache.specs.Cache.{HasCached, HasRoom, IsThere, shows_in};
-ghost use Rattle.dentry_cache.specs.CacheCalls.{Edits, FetchesAt, IsAbsent, IsRefusedAt, IsWhole, KeepsAt, MakesRoomAt, MayNotFetchAt, MayNotKeepAt, Rewrites};
-ghost use Rattle.dentry_cache.specs.CacheMap.{AreCaches, IsFreeFor, evicted, frag_of, given_up, has_place, here, no_caches, order, used_at, with_frag, with_mark};
+ghost use Rattle.dentry_cache.specs.CacheCalls.{Edits, FetchesAt, IsAbsent, IsRefusedAt, HasNoKeptPlace, KeepsAt, MakesRoomAt, MayNotFetchAt, MayNotKeepAt, Rewrites};
+ghost use Rattle.dentry_cache.specs.CacheMap.{AreCaches, IsFreeFor, evicted, cached_at, given_up, has_place, here, no_caches, order, used_at, with_frag, with_mark};
 ghost use Rattle.dentry_cache.specs.CacheSplits.{IsButPlaces, IsReadyAt};
 ghost use Rattle.dentry_cache.specs.Divided.{AreNumbered};
 ghost use Rattle.dentry_cache.specs.Calls.{AreCalls, AreFetchCalls, calls_to_load};
@@ -101,7 +101,7 @@ impl Caches {
         requires cached { IsThere (here self.old at.rank.0 (leaf_of at)) }
         ensures found { IfOk result
             (λ found. HasCached (here self.old at.rank.0 (leaf_of at))
-            (λ (f : Cached). found ≡ map.get (shown f) name.now)) }
+            (λ (f : Cached). found ≡ map.get (shown_names f) name.now)) }
         ensures used { self.new ≡ used_at self.old at.rank.0 (leaf_of at) }
     {
         self.caches[at.rank.0 as usize].look(at.dir, at.frag, name)
@@ -168,7 +168,7 @@ impl Caches {
     ) -> Result<(), Refusal>
         requires there { at.rank.0 < length self.old.used }
         requires free { IsFreeFor self.old at.rank.0 (leaf_of at) }
-        requires whole { IsWhole self.old at.rank.0 (leaf_of at) }
+        requires whole { HasNoKeptPlace self.old at.rank.0 (leaf_of at) }
         ensures cached { OnOk result (IsThere (here self.new at.rank.0 (leaf_of at))) }
         ensures fetched { OnOk result
             (FetchesAt at.rank.0 (leaf_of at) stay (object_of (S.objects store.old) at.dir at.frag)
@@ -244,7 +244,7 @@ impl Caches {
     pub fn begin_commit(&mut self, at: Dirfrag) -> Result<Option<Snapshot>, Refusal>
         requires there { at.rank.0 < length self.old.used }
         requires cached { IsThere (here self.old at.rank.0 (leaf_of at)) }
-        ensures taken { IfOk result (λ taken. HasCached (here self.old at.rank.0 (leaf_of at)) (Takes taken)) }
+        ensures taken { IfOk result (λ taken. HasCached (here self.old at.rank.0 (leaf_of at)) (TakesSnap taken)) }
         ensures refused { IfErr result
             (λ refusal. HasCached (here self.old at.rank.0 (leaf_of at)) (MayNotBegin refusal)) }
         ensures used { self.new ≡ used_at self.old at.rank.0 (leaf_of at) }
@@ -293,7 +293,7 @@ impl Caches {
         requires there { at.rank.0 < length self.now.used }
         requires cached { IsThere (here self.now at.rank.0 (leaf_of at)) }
         ensures copied { OnOk result
-            (HasCached (frag_of self.now at) (λ f. TakesIn into.old into.new (shown f) version)) }
+            (HasCached (cached_at self.now at) (λ f. TakesIn into.old into.new (shown_names f) version)) }
         ensures kept { OnErr result (into.new ≡ record into.old { room = into.new.room }) }
     {
         self.caches[at.rank.0 as usize].copy_names(at.dir, at.frag, into, version)

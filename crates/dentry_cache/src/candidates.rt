@@ -3,8 +3,8 @@ ghost use Rattle.std.specs.Prelude.{◌≡◌, ◌≢◌, ◌⊎◌, ◌||◌, �
 ghost use Rattle.mds_types.specs.Frag.{Fragment, IsFragment, child_of, span};
 ghost use Rattle.mds_types.specs.Leaf.{Leaf, leaf_is};
 ghost use Rattle.dentry_cache.specs.Cache.{fragment_in};
-ghost use Rattle.dentry_cache.specs.Candidates.{IsLargeIn, IsNext, IsSmallIn, Sizes, child, size_in};
-ghost use Rattle.dentry_cache.specs.CandidateSets.{AreCandidates, AreTold, HasRoomFor, MayResize, Rise, are_few, is_few, is_in, is_large, sizes_of};
+ghost use Rattle.dentry_cache.specs.Candidates.{IsLargeIn, IsNextLeaf, IsSmallIn, Sizes, child, size_in};
+ghost use Rattle.dentry_cache.specs.CandidateSets.{AreCandidates, AreTold, HasRoomFor, MayResize, Rise, are_few, is_few, is_leaf_in, is_large, sizes_of};
 
 use crate::cache::Place;
 use crate::dividing::span;
@@ -51,7 +51,7 @@ impl Candidates {
     /// The first large leaf behind another.
     pub(crate) fn next_large(&self, after: &Option<(Ino, Frag)>) -> Option<(Ino, Frag)>
         requires { Rise self.now.large.leaves.items }
-        ensures { (sizes : Sizes) → AreCandidates sizes self.now → IsNext (IsLargeIn sizes) after.now result }
+        ensures { (sizes : Sizes) → AreCandidates sizes self.now → IsNextLeaf (IsLargeIn sizes) after.now result }
     {
         self.large.next(after)
     }
@@ -59,7 +59,7 @@ impl Candidates {
     /// The first fragment behind another whose children are small.
     pub(crate) fn next_small(&self, after: &Option<(Ino, Frag)>) -> Option<(Ino, Frag)>
         requires { Rise self.now.small.leaves.items }
-        ensures { (sizes : Sizes) → AreCandidates sizes self.now → IsNext (IsSmallIn sizes) after.now result }
+        ensures { (sizes : Sizes) → AreCandidates sizes self.now → IsNextLeaf (IsSmallIn sizes) after.now result }
     {
         self.small.next(after)
     }
@@ -89,12 +89,12 @@ impl Candidates {
 // A leaf that had so many entries is among the large ones if it is large now.
 fn keep_large(large: &mut LeafSet, leaf: &(Ino, Frag), was: Option<usize>, now: Option<usize>)
     requires rise { Rise large.old.leaves.items }
-    requires was { is_in leaf.now large.old.leaves.items ≡ is_large leaf.now was }
-    requires room { is_large leaf.now now ≡ true → is_in leaf.now large.old.leaves.items ≡ false
+    requires was { is_leaf_in leaf.now large.old.leaves.items ≡ is_large leaf.now was }
+    requires room { is_large leaf.now now ≡ true → is_leaf_in leaf.now large.old.leaves.items ≡ false
         → length large.old.leaves.items < vec_capacity large.old.leaves }
     ensures rise { Rise large.new.leaves.items }
-    ensures each { (q : Leaf) → is_in q large.new.leaves.items ≡ cond (leaf_is leaf.now q)
-        (is_large leaf.now now) (is_in q large.old.leaves.items) }
+    ensures each { (q : Leaf) → is_leaf_in q large.new.leaves.items ≡ cond (leaf_is leaf.now q)
+        (is_large leaf.now now) (is_leaf_in q large.old.leaves.items) }
     ensures capacity { vec_capacity large.new.leaves ≡ vec_capacity large.old.leaves }
 {
     let is = is_large(leaf, now);
@@ -108,14 +108,14 @@ fn keep_large(large: &mut LeafSet, leaf: &(Ino, Frag), was: Option<usize>, now: 
 fn keep_small(small: &mut LeafSet, places: &PlaceLru, leaf: &(Ino, Frag))
     requires rise { Rise small.old.leaves.items }
     requires room { (q : Leaf) → IsFragment q.1 → q.1.bits + 3 ≤ 24 → are_few (sizes_of places.now.entries) q ≡ true
-        → is_in q small.old.leaves.items ≡ false → length small.old.leaves.items < vec_capacity small.old.leaves }
+        → is_leaf_in q small.old.leaves.items ≡ false → length small.old.leaves.items < vec_capacity small.old.leaves }
     ensures rise { Rise small.new.leaves.items }
     ensures each { (q : Leaf) → IsFragment q.1
-        → (is_in q small.new.leaves.items ≡ are_few (sizes_of places.now.entries) q)
-        ⊎ ((is_in q small.new.leaves.items ≡ is_in q small.old.leaves.items)
+        → (is_leaf_in q small.new.leaves.items ≡ are_few (sizes_of places.now.entries) q)
+        ⊎ ((is_leaf_in q small.new.leaves.items ≡ is_leaf_in q small.old.leaves.items)
         × ((i : ℕ) → i < 8 → child q i ≢ leaf.now)) }
-    ensures fragments { (q : Leaf) → is_in q small.new.leaves.items ≡ true
-        → (is_in q small.old.leaves.items ≡ true) ⊎ IsFragment q.1 }
+    ensures fragments { (q : Leaf) → is_leaf_in q small.new.leaves.items ≡ true
+        → (is_leaf_in q small.old.leaves.items ≡ true) ⊎ IsFragment q.1 }
     ensures capacity { vec_capacity small.new.leaves ≡ vec_capacity small.old.leaves }
 {
     match whole_of(leaf.1) {

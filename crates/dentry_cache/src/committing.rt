@@ -7,7 +7,7 @@ ghost use Rattle.cached_frag.specs.Snap.{IsBelowEnd, IsSnap};
 ghost use Rattle.cached_frag.specs.Cached.{Cached};
 ghost use Rattle.dentry_cache.specs.Cache.{HasCached, IsChanged, IsThere, IsWritten, cached};
 ghost use Rattle.dentry_cache.specs.Calls.{AreCalls};
-ghost use Rattle.dentry_cache.specs.Commits.{IsSettled, IsCommitted, MayNotBegin, Takes, leaf_text};
+ghost use Rattle.dentry_cache.specs.Commits.{IsCleanedOf, IsCommitted, MayNotBegin, TakesSnap, leaf_text};
 
 use crate::cache::Cache;
 use cached_frag::{Base, CachedFrag, DirtyNames, Encoded, Snapshot};
@@ -21,7 +21,7 @@ impl Cache {
     /// Refused `NoInodes` where no commit version is left for one that isn't clean, and `NoMemory`.
     pub fn begin_commit(&mut self, dir: Ino, frag: Frag) -> Result<Option<Snapshot>, Refusal>
         requires { IsThere (cached self.old.entries (dir, frag)) }
-        ensures taken { IfOk result (λ taken. HasCached (cached self.old.entries (dir, frag)) (Takes taken)) }
+        ensures taken { IfOk result (λ taken. HasCached (cached self.old.entries (dir, frag)) (TakesSnap taken)) }
         ensures refused { IfErr result
             (λ refusal. HasCached (cached self.old.entries (dir, frag)) (MayNotBegin refusal)) }
         ensures used { IsChanged (cached self.old.entries (dir, frag))
@@ -103,7 +103,7 @@ impl Cache {
     fn settle(&mut self, dir: Ino, frag: Frag, names: &DirtyNames, version: u64)
         requires { HasCached (cached self.old.entries (dir, frag)) (λ (f : Cached). map.len names.now ≤ f.places) }
         ensures { IsWritten (cached self.old.entries (dir, frag))
-            (IsSettled names.now version) (dir, frag) self.old self.new }
+            (IsCleanedOf names.now version) (dir, frag) self.old self.new }
     {
         let Some(place) = self.places.peek_mut(&(dir, frag)) else {
             return;
@@ -114,7 +114,7 @@ impl Cache {
 
 // The snapshot of a fragment; none, where it is clean.
 fn snapshot_of(fragment: &CachedFrag) -> Result<Option<Snapshot>, Refusal>
-    ensures taken { IfOk result (λ taken. Takes taken fragment.now) }
+    ensures taken { IfOk result (λ taken. TakesSnap taken fragment.now) }
     ensures valid { IfOk result (λ taken. IfSome taken IsSnap) }
     ensures refused { IfErr result (λ refusal. MayNotBegin refusal fragment.now) }
 {

@@ -1,6 +1,6 @@
 //! Leaves end, whichever rank has them.
 ghost use Rattle.std.specs.Prelude.{ℕ, ◌≡◌, ◌<◌, length, is_some};
-ghost use Rattle.dentry_cache.specs.CacheCalls.{IsWhole};
+ghost use Rattle.dentry_cache.specs.CacheCalls.{HasNoKeptPlace};
 ghost use Rattle.dentry_cache.specs.CacheMap.{AreCaches, given_up, here};
 ghost use Rattle.dentry_cache.specs.Ended.{ended};
 
@@ -11,7 +11,7 @@ impl Caches {
     /// Gives up the place of a leaf, with its fragment, at the rank that has it; no place is kept for it. A leaf that
     /// none has changes nothing. The ranks are tried one after the other. Takes no memory.
     pub fn end(&mut self, dir: Ino, frag: Frag)
-        requires { (r : ℕ) → IsWhole self.old r (dir, frag) }
+        requires { (r : ℕ) → HasNoKeptPlace self.old r (dir, frag) }
         ensures ended { self.new ≡ ended self.old (dir, frag) }
         ensures valid { AreCaches self.old }
     {

@@ -1,7 +1,7 @@
 //! Places for others: the least recently used of the clean fragments goes.
 ghost use Rattle.std.specs.Prelude.{◌≡◌, ◌+◌, ◌<◌, ◌≤◌, true, false, filter, length, MatchOption, None, OnOk, IfErr, OnErr};
 ghost use Rattle.mds_types.specs.declared.refusals.Refusal.TheVariants.{NothingToEvict};
-ghost use Rattle.dentry_cache.specs.Cache.{Evicts, IsFull, IsOldest, MakesRoom, NoneGoes, is_evictable, may_go, stays};
+ghost use Rattle.dentry_cache.specs.Cache.{Evicts, IsFull, IsOldest, MakesRoom, NoneGoes, is_evictable, may_go, is_to_stay};
 
 use crate::cache::{Cache, Place};
 use mds_types::{Frag, Ino, Refusal};
@@ -103,7 +103,7 @@ fn may_go(stay: &Option<(Ino, Frag)>, leaf: &(Ino, Frag), place: &Place) -> bool
 
 // Whether a leaf is the one that is to stay.
 fn stays(stay: &Option<(Ino, Frag)>, leaf: &(Ino, Frag)) -> bool
-    ensures { result ≡ stays stay.now leaf.now }
+    ensures { result ≡ is_to_stay stay.now leaf.now }
 {
     match stay {
         Some(one) => one == leaf,

@@ -1,6 +1,6 @@
 //! Names of leaves, gathered for a fragment that will be made of them.
 ghost use Rattle.std.specs.Prelude.{◌≡◌, OnOk, OnErr};
-ghost use Rattle.cached_frag.specs.Cached.{Cached, shown};
+ghost use Rattle.cached_frag.specs.Cached.{Cached, shown_names};
 ghost use Rattle.cached_frag.specs.Moving.{TakesIn};
 ghost use Rattle.dentry_cache.specs.Cache.{HasCached, IsThere, cached};
 
@@ -22,7 +22,7 @@ impl Cache {
         requires { IsThere (cached self.now.entries (dir, frag)) }
         ensures copied { OnOk result
             (HasCached (cached self.now.entries (dir, frag))
-            (λ (f : Cached). TakesIn joined.old joined.new (shown f) version)) }
+            (λ (f : Cached). TakesIn joined.old joined.new (shown_names f) version)) }
         ensures kept { OnErr result (joined.new ≡ record joined.old { room = joined.new.room }) }
     {
         match self.get(dir, frag) {

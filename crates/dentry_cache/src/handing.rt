@@ -5,7 +5,7 @@ ghost use Rattle.mds_types.specs.declared.refusals.Refusal.TheVariants.{NoMemory
 ghost use Rattle.mds_types.specs.Leaf.{leaf_is, leaf_of};
 ghost use Rattle.dentry_cache.specs.CacheCalls.{CanKeep, CanNotKeep};
 ghost use Rattle.dentry_cache.specs.CacheMap.{AreCaches, has_place, unclean as unclean_leaves};
-ghost use Rattle.dentry_cache.specs.Handing.{AreCleanAt, AreHanded, AreUncleanAt, HandsOver, HaveNoPlace, MayNotHandOver, WantsPlace, kept_all, moved, moved_all, without_all};
+ghost use Rattle.dentry_cache.specs.Handing.{AreCleanAt, AreHanded, AreUncleanAt, HandsFragmentsOver, HaveNoPlace, MayNotHandOver, WantsPlace, kept_all, moved, moved_all, without_all};
 
 use crate::caches::Caches;
 use mds_types::{Dirfrag, Frag, Ino, Rank, Refusal};
@@ -34,7 +34,7 @@ impl Caches {
         requires cached { AreUncleanAt self.old from.0 unclean.now }
         requires absent { HaveNoPlace self.old to.0 unclean.now }
         requires once { IsDistinct leaf_is unclean.now }
-        ensures handed { OnOk result (HandsOver from.0 to.0 unclean.now clean.now self.old self.new) }
+        ensures handed { OnOk result (HandsFragmentsOver from.0 to.0 unclean.now clean.now self.old self.new) }
         ensures refused { IfErr result (MayNotHandOver to.0 unclean.now self.old self.new) }
         ensures unsaved { AreCleanAt self.old from.0 clean.now
             → OnOk result (AreHanded unclean.now (unclean_leaves self.old) (unclean_leaves self.new)) }

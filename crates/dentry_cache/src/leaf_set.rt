@@ -2,8 +2,8 @@
 ghost use Rattle.std.specs.Prelude.{◌≡◌, ◌<◌, ◌≤◌, Bool, true, false, cond, [], length, insert, remove, option_copied, vec_len, vec_capacity, OnOk};
 ghost use Rattle.std.specs.List.Sorted.{IsSearchInRange};
 ghost use Rattle.mds_types.specs.Leaf.{Leaf, leaf_is};
-ghost use Rattle.dentry_cache.specs.CandidateSets.{IsPlaceBehind, IsSpot, Rise, is_in};
-ghost use Rattle.dentry_cache.specs.Candidates.{IsNext};
+ghost use Rattle.dentry_cache.specs.CandidateSets.{IsPlaceBehind, IsLeafSpot, Rise, is_leaf_in};
+ghost use Rattle.dentry_cache.specs.Candidates.{IsNextLeaf};
 
 use mds_types::{Frag, Ino};
 use std::alloc::{AllocError, Global};
@@ -38,7 +38,7 @@ impl LeafSet {
     /// The first leaf behind another; the first of all behind none.
     pub(crate) fn next(&self, after: &Option<(Ino, Frag)>) -> Option<(Ino, Frag)>
         requires { Rise self.now.leaves.items }
-        ensures { IsNext (λ (leaf : Leaf). is_in leaf self.now.leaves.items ≡ true) after.now result }
+        ensures { IsNextLeaf (λ (leaf : Leaf). is_leaf_in leaf self.now.leaves.items ≡ true) after.now result }
     {
         match after {
             Some(leaf) => self.leaves.get(place_behind(&self.leaves, leaf)).copied(),
@@ -50,11 +50,11 @@ impl LeafSet {
     #[inline(never)]
     pub(crate) fn set(&mut self, leaf: &(Ino, Frag), is: bool)
         requires rise { Rise self.old.leaves.items }
-        requires room { is ≡ true → is_in leaf.now self.old.leaves.items ≡ false
+        requires room { is ≡ true → is_leaf_in leaf.now self.old.leaves.items ≡ false
             → length self.old.leaves.items < vec_capacity self.old.leaves }
         ensures rise { Rise self.new.leaves.items }
-        ensures each { (q : Leaf) → is_in q self.new.leaves.items ≡ cond
-            (leaf_is leaf.now q) is (is_in q self.old.leaves.items) }
+        ensures each { (q : Leaf) → is_leaf_in q self.new.leaves.items ≡ cond
+            (leaf_is leaf.now q) is (is_leaf_in q self.old.leaves.items) }
         ensures capacity { vec_capacity self.new.leaves ≡ vec_capacity self.old.leaves }
     {
         if is {
@@ -68,9 +68,9 @@ impl LeafSet {
 // Puts a leaf in, if it isn't there.
 fn put(leaves: &mut Vec<(Ino, Frag)>, leaf: &(Ino, Frag))
     requires rise { Rise leaves.old.items }
-    requires room { is_in leaf.now leaves.old.items ≡ false → length leaves.old.items < vec_capacity leaves.old }
+    requires room { is_leaf_in leaf.now leaves.old.items ≡ false → length leaves.old.items < vec_capacity leaves.old }
     ensures rise { Rise leaves.new.items }
-    ensures each { (q : Leaf) → is_in q leaves.new.items ≡ cond (leaf_is leaf.now q) true (is_in q leaves.old.items) }
+    ensures each { (q : Leaf) → is_leaf_in q leaves.new.items ≡ cond (leaf_is leaf.now q) true (is_leaf_in q leaves.old.items) }
     ensures capacity { vec_capacity leaves.new ≡ vec_capacity leaves.old }
 {
     match spot(leaves, leaf) {
@@ -83,7 +83,7 @@ fn put(leaves: &mut Vec<(Ino, Frag)>, leaf: &(Ino, Frag))
 fn take(leaves: &mut Vec<(Ino, Frag)>, leaf: &(Ino, Frag))
     requires { Rise leaves.old.items }
     ensures rise { Rise leaves.new.items }
-    ensures each { (q : Leaf) → is_in q leaves.new.items ≡ cond (leaf_is leaf.now q) false (is_in q leaves.old.items) }
+    ensures each { (q : Leaf) → is_leaf_in q leaves.new.items ≡ cond (leaf_is leaf.now q) false (is_leaf_in q leaves.old.items) }
     ensures capacity { vec_capacity leaves.new ≡ vec_capacity leaves.old }
 {
     match spot(leaves, leaf) {
@@ -113,7 +113,7 @@ fn take_at(leaves: &mut Vec<(Ino, Frag)>, at: usize)
 fn spot(leaves: &[(Ino, Frag)], leaf: &(Ino, Frag)) -> Result<usize, usize>
     requires { Rise leaves.now }
     ensures within { IsSearchInRange result (length leaves.now) }
-    ensures spot { IsSpot leaf.now leaves.now result }
+    ensures spot { IsLeafSpot leaf.now leaves.now result }
 {
     leaves.binary_search(leaf)
 }

@@ -7,7 +7,7 @@ ghost use Rattle.objstore.specs.Objects.{MayRefuse, faults_told};
 ghost use Rattle.std.specs.FinMap as map;
 ghost use Rattle.dentry_cache.specs.Calls.{AreCalls, LeavesPages, PagesLeft, calls_to_load, header_in, pages_read};
 ghost use Rattle.dentry_cache.specs.Loading.{Loads, MayNotLoad, object_of};
-ghost use Rattle.dentry_cache.specs.Pairs.{AreNamesOf, EndsPage, EndsPairs, IsCounted, IsEndOf, IsHeaderOf, pairs_left};
+ghost use Rattle.dentry_cache.specs.Pairs.{ArePairNames, EndsPage, EndsPairs, HasHeaderCounts, IsEndOf, IsHeaderOf, pairs_left};
 
 use crate::pairs::add_pairs;
 use cached_frag::CachedFrag;
@@ -84,7 +84,7 @@ fn load_object<S: Store>(
 
 // The fragment, if the header has its counts.
 fn counted(loaded: CachedFrag, header: FragHeader) -> Option<CachedFrag>
-    ensures { IsCounted loaded header result }
+    ensures { HasHeaderCounts loaded header result }
 {
     let counts = loaded.counts();
     if counts.files == header.files && counts.dirs == header.dirs {
@@ -120,7 +120,7 @@ fn read_names<S: Store>(
     text: &str,
     frag: Frag,
 ) -> Result<Option<SortedMap<Name, Inode>>, Refusal>
-    ensures read { IfOk result (AreNamesOf frag (map.get (S.objects store.old) text.now)) }
+    ensures read { IfOk result (ArePairNames frag (map.get (S.objects store.old) text.now)) }
     ensures refused { IfErr result (MayRefuse (S.faults store.old) (S.faults store.new)) }
     ensures same { S.objects store.new ≡ S.objects store.old }
     ensures counted { S.faults store.new ≡ S.faults store.old + faults_told (result_err result) }

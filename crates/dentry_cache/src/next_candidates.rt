@@ -1,7 +1,7 @@
 //! What a rank would split or merge by the sizes of what it caches, one after the other.
 ghost use Rattle.std.specs.Prelude.{◌<◌, length};
 ghost use Rattle.dentry_cache.specs.CandidateSets.{sizes_of};
-ghost use Rattle.dentry_cache.specs.Candidates.{IsLargeIn, IsNext, IsSmallIn, sizes_at};
+ghost use Rattle.dentry_cache.specs.Candidates.{IsLargeIn, IsNextLeaf, IsSmallIn, sizes_at};
 
 use crate::cache::Cache;
 use crate::caches::Caches;
@@ -10,14 +10,14 @@ use mds_types::{Frag, Ino, Rank};
 impl Cache {
     /// The first large leaf behind another.
     fn next_large(&self, after: &Option<(Ino, Frag)>) -> Option<(Ino, Frag)>
-        ensures { IsNext (IsLargeIn (sizes_of self.now.entries)) after.now result }
+        ensures { IsNextLeaf (IsLargeIn (sizes_of self.now.entries)) after.now result }
     {
         self.candidates.next_large(after)
     }
 
     /// The first fragment behind another whose eight children are small.
     fn next_small(&self, after: &Option<(Ino, Frag)>) -> Option<(Ino, Frag)>
-        ensures { IsNext (IsSmallIn (sizes_of self.now.entries)) after.now result }
+        ensures { IsNextLeaf (IsSmallIn (sizes_of self.now.entries)) after.now result }
     {
         self.candidates.next_small(after)
     }
@@ -28,7 +28,7 @@ impl Caches {
     /// bits; the first of all behind none. No cached fragment is looked at.
     pub fn next_large(&self, rank: Rank, after: Option<(Ino, Frag)>) -> Option<(Ino, Frag)>
         requires { rank.0 < length self.now.used }
-        ensures { IsNext (IsLargeIn (sizes_at self.now rank.0)) after result }
+        ensures { IsNextLeaf (IsLargeIn (sizes_at self.now rank.0)) after result }
     {
         self.caches[rank.0 as usize].next_large(&after)
     }
@@ -37,7 +37,7 @@ impl Caches {
     /// together; the first of all behind none. No cached fragment is looked at.
     pub fn next_small(&self, rank: Rank, after: Option<(Ino, Frag)>) -> Option<(Ino, Frag)>
         requires { rank.0 < length self.now.used }
-        ensures { IsNext (IsSmallIn (sizes_at self.now rank.0)) after result }
+        ensures { IsNextLeaf (IsSmallIn (sizes_at self.now rank.0)) after result }
     {
         self.caches[rank.0 as usize].next_small(&after)
     }

@@ -5,8 +5,8 @@ ghost use Rattle.std.specs.FinMap as map;
 ghost use Rattle.objstore.specs.Omap.{key_cmp};
 ghost use Rattle.sorted_map.specs.SortedMap.{contents};
 ghost use Rattle.mds_types.specs.Frag.{Fragment};
-ghost use Rattle.dirfrag_codec.specs.FragmentObject.{with_entry};
-ghost use Rattle.dirfrag_codec.specs.Values.{entry_of, name_of};
+ghost use Rattle.dirfrag_codec.specs.FragmentObject.{with_pair};
+ghost use Rattle.dirfrag_codec.specs.Values.{inode_of_record, name_of_key};
 ghost use Rattle.dentry_cache.specs.Pairs.{IsRead, added, are_good, holds, is_good};
 
 use dirfrag_codec::decode_entry;
@@ -46,8 +46,8 @@ fn add_pair(
 ) -> Result<bool, AllocError>
     ensures good { IfOk result (λ good. good ≡ is_good frag (key.now, bytes.now)) }
     ensures added { IfOk result
-        (λ good. good ≡ true → contents key_cmp names.new ≡ with_entry (contents key_cmp names.old)
-        (name_of key.now) (entry_of bytes.now)) }
+        (λ good. good ≡ true → contents key_cmp names.new ≡ with_pair (contents key_cmp names.old)
+        (name_of_key key.now) (inode_of_record bytes.now)) }
 {
     names.reserve(1)?;
     let Some((name, inode)) = read_pair(alloc, frag, key, bytes)? else {
@@ -80,14 +80,14 @@ fn read_pair(
 
 // The name whose key this is.
 fn named(alloc: Global, key: &[u8]) -> Result<Option<Name>, AllocError>
-    ensures { IfOk result (λ name. name ≡ name_of key.now) }
+    ensures { IfOk result (λ name. name ≡ name_of_key key.now) }
 {
     name_of(alloc, key)
 }
 
 // The inode whose record this is.
 fn recorded(alloc: Global, bytes: &[u8]) -> Result<Option<Inode>, AllocError>
-    ensures { IfOk result (λ inode. inode ≡ entry_of bytes.now) }
+    ensures { IfOk result (λ inode. inode ≡ inode_of_record bytes.now) }
 {
     decode_entry(alloc, bytes)
 }

@@ -1,7 +1,7 @@
 //! The children that a fragment will be split into: made with room for their names.
 ghost use Rattle.std.specs.Prelude.{◌≡◌, ◌+◌, ◌≤◌, ◌<◌, ◌^◌, length, IfOk, OnErr, OnOk};
 ghost use Rattle.mds_types.specs.Frag.{Fragment};
-ghost use Rattle.cached_frag.specs.Cached.{shown};
+ghost use Rattle.cached_frag.specs.Cached.{shown_names};
 ghost use Rattle.dentry_cache.specs.Divided.{AreNumbered, AreReady};
 ghost use Rattle.dentry_cache.specs.Parting.{Each, EachThen, Grows, IsBare, is_place};
 
@@ -49,7 +49,7 @@ pub(crate) fn parts_of(
     requires few { nb ≤ 8 }
     requires bits { frag.bits + nb ≤ 24 }
     requires numbers { generation + 2 ^ nb ≤ 2 ^ 64 }
-    ensures ready { IfOk result (λ parts. AreReady frag nb (shown fragment.now) parts) }
+    ensures ready { IfOk result (λ parts. AreReady frag nb (shown_names fragment.now) parts) }
     ensures numbered { IfOk result (λ parts. AreNumbered generation parts) }
 {
     let mut items = bare_parts(alloc, frag, nb, generation)?;

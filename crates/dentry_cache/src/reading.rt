@@ -1,7 +1,7 @@
 //! Names of cached fragments, looked up. Each use makes its fragment the most recently used.
 ghost use Rattle.std.specs.Prelude.{◌≡◌, IfOk, option_copied};
 ghost use Rattle.std.specs.FinMap as map;
-ghost use Rattle.cached_frag.specs.Cached.{Cached, shown};
+ghost use Rattle.cached_frag.specs.Cached.{Cached, shown_names};
 ghost use Rattle.dentry_cache.specs.Cache.{HasCached, IsChanged, IsThere, cached, shows_in};
 
 use crate::cache::Cache;
@@ -14,7 +14,7 @@ impl Cache {
         requires { IsThere (cached self.old.entries (dir, frag)) }
         ensures found { IfOk result
             (λ found. HasCached (cached self.old.entries (dir, frag))
-            (λ (f : Cached). found ≡ map.get (shown f) name.now)) }
+            (λ (f : Cached). found ≡ map.get (shown_names f) name.now)) }
         ensures used { IsChanged (cached self.old.entries (dir, frag))
             (λ (f now : Cached). now ≡ f) (dir, frag) self.old self.new }
     {

@@ -6,11 +6,11 @@ ghost use Rattle.objstore.specs.Omap.{key_cmp};
 ghost use Rattle.mds_types.specs.Frag.{child_of};
 ghost use Rattle.mds_types.specs.declared.refusals.Refusal.TheVariants.{NoMemory};
 ghost use Rattle.mds_types.specs.Leaf.{leaf_of};
-ghost use Rattle.cached_frag.specs.Cached.{AreEntries, Cached, shown};
+ghost use Rattle.cached_frag.specs.Cached.{AreEntries, Cached, shown_names};
 ghost use Rattle.dentry_cache.specs.Cache.{HasCached, IsThere};
 ghost use Rattle.dentry_cache.specs.CacheCalls.{CanKeep, CanNotKeep};
-ghost use Rattle.dentry_cache.specs.CacheMap.{AreCaches, frag_of, given_up, here};
-ghost use Rattle.dentry_cache.specs.CacheSplits.{AreAbsent, AreFillable, AreKept, IsReadyAt, KeepsAll, MayNotKeepAll, ReadiesAt, ReadsFamily, RefusesAt, SplitsInto, StaysAt, WantsChild, with_parts, without_children};
+ghost use Rattle.dentry_cache.specs.CacheMap.{AreCaches, cached_at, given_up, here};
+ghost use Rattle.dentry_cache.specs.CacheSplits.{AreAbsent, AreFillable, HaveKeptPlaces, IsReadyAt, KeepsAll, MayNotKeepAll, ReadiesAt, ReadsFamily, RefusesAt, SplitsInto, StaysAt, WantsChild, with_parts, without_children};
 ghost use Rattle.dentry_cache.specs.Divided.{AreNumbered};
 
 use crate::caches::Caches;
@@ -46,7 +46,7 @@ impl Caches {
         requires absent { AreAbsent self.old at.rank.0 at.dir at.frag bits }
         ensures ready { IfOk result (IsReadyAt at.rank.0 at.dir at.frag bits self.new) }
         ensures numbered { IfOk result (λ parts. AreNumbered generation parts) }
-        ensures kept { OnOk result (AreKept self.new at.rank.0 at.dir at.frag bits) }
+        ensures kept { OnOk result (HaveKeptPlaces self.new at.rank.0 at.dir at.frag bits) }
         ensures readies { OnOk result (ReadiesAt at.rank.0 at.dir at.frag bits self.old self.new) }
         ensures left { OnErr result (AreAbsent self.new at.rank.0 at.dir at.frag bits) }
         ensures refuses { IfErr result (RefusesAt at.rank.0 at.dir at.frag bits self.old self.new) }
@@ -91,7 +91,7 @@ impl Caches {
         requires some { 1 ≤ bits }
         requires deep { at.frag.bits + bits ≤ 24 }
         requires ready { IsReadyAt at.rank.0 at.dir at.frag bits self.old parts }
-        requires kept { AreKept self.old at.rank.0 at.dir at.frag bits }
+        requires kept { HaveKeptPlaces self.old at.rank.0 at.dir at.frag bits }
         ensures { SplitsInto at.rank.0 at.dir at.frag bits parts version self.old self.new }
     {
         let names = self.give_names(&at);
@@ -122,7 +122,7 @@ impl Caches {
         requires absent { AreAbsent self.old at.now.rank.0 at.now.dir at.now.frag bits }
         requires valid { AreCaches self.old }
         requires can { CanKeep (2 ^ bits) self.old at.now.rank.0 (Some (leaf_of at.now)) }
-        ensures kept { OnOk result (AreKept self.new at.now.rank.0 at.now.dir at.now.frag bits) }
+        ensures kept { OnOk result (HaveKeptPlaces self.new at.now.rank.0 at.now.dir at.now.frag bits) }
         ensures keeps { OnOk result (KeepsAll at.now.rank.0 at.now.dir at.now.frag bits self.old self.new) }
         ensures left { OnErr result (AreAbsent self.new at.now.rank.0 at.now.dir at.now.frag bits) }
         ensures refuses { OnErr result (WantsChild at.now.rank.0 at.now.dir at.now.frag bits self.old self.new) }
@@ -143,8 +143,8 @@ impl Caches {
     // Takes a fragment out that is ready for it, and gives away the names that it shows.
     fn give_names(&mut self, at: &Dirfrag) -> SortedMap<Name, Inode>
         requires there { at.now.rank.0 < length self.old.used }
-        requires ready { HasCached (frag_of self.old at.now) (λ (f : Cached). map.len f.dirty ≤ f.places) }
-        ensures names { HasCached (frag_of self.old at.now) (λ (f : Cached). contents key_cmp result ≡ shown f) }
+        requires ready { HasCached (cached_at self.old at.now) (λ (f : Cached). map.len f.dirty ≤ f.places) }
+        ensures names { HasCached (cached_at self.old at.now) (λ (f : Cached). contents key_cmp result ≡ shown_names f) }
         ensures entries { AreEntries (contents key_cmp result) }
         ensures without { self.new ≡ given_up self.old at.now.rank.0 (leaf_of at.now) }
     {

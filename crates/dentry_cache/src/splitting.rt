@@ -1,7 +1,7 @@
 //! The children of a cached fragment, made ready for a split with room for its names.
 ghost use Rattle.std.specs.Prelude.{◌≡◌, ◌+◌, ◌≤◌, ◌^◌, IfOk, OnOk};
 ghost use Rattle.std.specs.FinMap as map;
-ghost use Rattle.cached_frag.specs.Cached.{Cached, shown};
+ghost use Rattle.cached_frag.specs.Cached.{Cached, shown_names};
 ghost use Rattle.dentry_cache.specs.Cache.{HasCached, IsWritten, IsThere, cached};
 ghost use Rattle.dentry_cache.specs.Divided.{AreNumbered, AreReady};
 
@@ -28,7 +28,7 @@ impl Cache {
             (λ (f now : Cached). now ≡ record f { places = now.places }) (dir, frag) self.old self.new }
         ensures ready { IfOk result
             (λ parts. HasCached (cached self.new.entries (dir, frag))
-            (λ (f : Cached). (map.len f.dirty ≤ f.places) × AreReady frag nb (shown f) parts)) }
+            (λ (f : Cached). (map.len f.dirty ≤ f.places) × AreReady frag nb (shown_names f) parts)) }
         ensures numbered { IfOk result (λ parts. AreNumbered generation parts) }
     {
         self.ready_names(dir, frag)?;

@@ -1,7 +1,7 @@
 //! The leaves of fragments that aren't clean.
 ghost use Rattle.std.specs.Prelude.{◌≡◌, ◌≤◌, ◌++◌, length, take, OnOk, IfOk};
 ghost use Rattle.dentry_cache.specs.CacheMap.{AreCaches};
-ghost use Rattle.dentry_cache.specs.Unclean.{is_unclean, unclean_in, unclean_places};
+ghost use Rattle.dentry_cache.specs.Unclean.{is_unclean, unclean_leaves_in, unclean_places};
 
 use crate::cache::{Cache, Place};
 use crate::caches::Caches;
@@ -28,7 +28,7 @@ impl Cache {
     ) -> Result<(), AllocError>
         requires { length leaves.old.items ≤ most }
         ensures added { OnOk result
-            (leaves.new.items ≡ take most (leaves.old.items ++ unclean_in rank self.now.entries)) }
+            (leaves.new.items ≡ take most (leaves.old.items ++ unclean_leaves_in rank self.now.entries)) }
     {
         let mut rest = self.places.iter();
         while let Some((leaf, place)) = rest.next() {

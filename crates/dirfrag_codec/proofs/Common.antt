@@ -6,7 +6,7 @@ pub use Rattle.dirfrag_codec.specs.Grammar.{Decodes}
 pub use Rattle.dirfrag_codec.specs.Leaves.{AreTilesFrom, AreTreeOf, BeginsWith, BeginsWithNone, EndsAt}
 pub use Rattle.dirfrag_codec.specs.Reading.{number_at, words_at}
 pub use Rattle.dirfrag_codec.specs.TreeObject.{SpellsTree, leaf_bytes, tree_bytes}
-pub use Rattle.dirfrag_codec.specs.Values.{entry_of, header_of, tree_of, written_of}
+pub use Rattle.dirfrag_codec.specs.Values.{inode_of_record, header_of, tree_of_bytes, written_of}
 pub use Rattle.fragtree.specs.FragTree.{Tiles}
 pub use Rattle.mds_types.specs.Frag.{Fragment, IsFragment, span, word_of}
 pub use Rattle.std.proofs.Common.{Bool, IsSome, IsTrue, List, None, Option, Some, [], ap, arith, eq-eqb, eqb, false, inr, length, refl, rules, subst, sym, true, ℕ, ◌*◌, ◌++◌, ◌+◌, ◌^◌, ◌↔◌, ◌∙◌, ◌∷◌, ◌≡◌, ◌≤◌}

@@ -8,7 +8,7 @@ use Rattle.byteorder.specs.Endian.{little_bytes}
 use Rattle.dirfrag_codec.specs.declared.headers.FragHeader.{FragHeader}
 use Rattle.dirfrag_codec.specs.FragHeader.{SpellsHeader, header_bytes}
 use Rattle.dirfrag_codec.specs.Grammar.{Decodes}
-use Rattle.dirfrag_codec.specs.Reading.{◌>>=◌, Gives, after_tag, number_at, header_at}
+use Rattle.dirfrag_codec.specs.Reading.{◌>>=◌, Gives, after_tag, number_at, header_read_at}
 use Rattle.dirfrag_codec.proofs.Front.{IsBytes, bind_some, number_again, number_takes, tag_takes, width_8}
 
 positive : (n : ℕ) → ltb 0 n ≡ true → 1 ≤ n
@@ -20,8 +20,8 @@ joined bytes t0 t1 t2 t3 header e0 e1 e2 e3 e4 =
     e0 ∙ ap (λ (x : List ℕ). 70 ∷ 1 ∷ x) e1 ∙ ap (λ (x : List ℕ). 70 ∷ 1 ∷ (little_bytes 8 header.version ++ x)) e2
     ∙ ap (λ (x : List ℕ). 70 ∷ 1 ∷ (little_bytes 8 header.version ++ (little_bytes 8 header.files ++ x))) (e3 ∙ ap (λ (x : List ℕ). little_bytes 8 header.dirs ++ x) e4 ∙ append-nil (little_bytes 8 header.dirs))
 
-pub header_takes : (bytes : List ℕ) (header : FragHeader) → IsBytes bytes → header_at bytes ≡ Some header → SpellsHeader bytes header
-unfolding header_at
+pub header_takes : (bytes : List ℕ) (header : FragHeader) → IsBytes bytes → header_read_at bytes ≡ Some header → SpellsHeader bytes header
+unfolding header_read_at
 header_takes bytes header fits e =
     let a = bind_some (after_tag 70 1 bytes) (λ tagged. number_at 8 tagged >>= λ version. number_at 8 version.1 >>= λ files. number_at 8 files.1 >>= λ dirs.
     cond (ltb 0 version.0 && eqb (length dirs.1) 0) (Some (record { version = version.0; files = files.0; dirs = dirs.0 })) None) header e in
@@ -43,21 +43,21 @@ header_takes bytes header fits e =
     subst (SpellsHeader bytes) g.1 (record { committed = positive b.0.0 w.0; version = omega (arith, t1.1); files = omega (arith, t2.1); dirs = omega (arith, t3.1); spelled = whole })
 
 header_chain : (t0 t1 t2 : List ℕ) (v f d : ℕ) → number_at 8 t0 ≡ Some (v, t1) → number_at 8 t1 ≡ Some (f, t2) → number_at 8 t2 ≡ Some (d, []) → ltb 0 v ≡ true
-    → header_at (70 ∷ 1 ∷ t0) ≡ Some (record { version = v; files = f; dirs = d })
-unfolding header_at
+    → header_read_at (70 ∷ 1 ∷ t0) ≡ Some (record { version = v; files = f; dirs = d })
+unfolding header_read_at
 header_chain t0 t1 t2 v f d e0 e1 e2 some = rw (e0, e1, e2, some) refl
 
-pub header_again : (header : FragHeader) → 1 ≤ header.version → header.version < 2 ^ 64 → header.files < 2 ^ 64 → header.dirs < 2 ^ 64 → header_at (header_bytes header) ≡ Some header
+pub header_again : (header : FragHeader) → 1 ≤ header.version → header.version < 2 ^ 64 → header.files < 2 ^ 64 → header.dirs < 2 ^ 64 → header_read_at (header_bytes header) ≡ Some header
 header_again header some v f d =
     let last : number_at 8 (little_bytes 8 header.dirs) ≡ Some (header.dirs, []) = ap (number_at 8) (sym (append-nil (little_bytes 8 header.dirs))) ∙ number_again 8 header.dirs [] (omega arith) in
     let positive : ltb 0 header.version ≡ true = grind (arith, nat_tests) in
     header_chain (little_bytes 8 header.version ++ (little_bytes 8 header.files ++ little_bytes 8 header.dirs)) (little_bytes 8 header.files ++ little_bytes 8 header.dirs) (little_bytes 8 header.dirs) header.version header.files header.dirs
     (number_again 8 header.version (little_bytes 8 header.files ++ little_bytes 8 header.dirs) (omega arith)) (number_again 8 header.files (little_bytes 8 header.dirs) (omega arith)) last positive
 
-pub header_decoded : (bytes : List ℕ) (answer : Option FragHeader) → IsBytes bytes → Gives (λ (h : FragHeader). h) answer (header_at bytes) → Decodes SpellsHeader bytes answer
+pub header_decoded : (bytes : List ℕ) (answer : Option FragHeader) → IsBytes bytes → Gives (λ (h : FragHeader). h) answer (header_read_at bytes) → Decodes SpellsHeader bytes answer
 header_decoded bytes (Some header) fits read = header_takes bytes header fits read
 header_decoded bytes None fits read = λ header s.
-    let found : header_at bytes ≡ Some header = ap header_at s.spelled ∙ header_again header s.committed s.version s.files s.dirs in
+    let found : header_read_at bytes ≡ Some header = ap header_read_at s.spelled ∙ header_again header s.committed s.version s.files s.dirs in
     absurd cc
 
 pub one_header : (bytes : List ℕ) (a b : FragHeader) → SpellsHeader bytes a → SpellsHeader bytes b → a ≡ b
@@ -65,5 +65,5 @@ one_header bytes a b s t =
     let same : Some a ≡ Some b = sym (found a s) ∙ found b t in
     cc
   where
-    found : (header : FragHeader) → SpellsHeader bytes header → header_at bytes ≡ Some header
-    found header s = ap header_at s.spelled ∙ header_again header s.committed s.version s.files s.dirs
+    found : (header : FragHeader) → SpellsHeader bytes header → header_read_at bytes ≡ Some header
+    found header s = ap header_read_at s.spelled ∙ header_again header s.committed s.version s.files s.dirs

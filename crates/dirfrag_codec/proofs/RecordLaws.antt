@@ -9,7 +9,7 @@ use Rattle.mds_types.specs.declared.ids.Rank.{Rank}
 use Rattle.mds_types.specs.declared.inodes.Inode.{Inode}
 use Rattle.mds_types.specs.declared.inodes.Kind.{Kind}
 use Rattle.mds_types.specs.declared.inodes.Kind.TheVariants.{File, Dir, Symlink}
-use Rattle.dirfrag_codec.specs.EntryRecord.{HasItsSpellings, HasRecord, HasTarget, HasWidths, IsPlain, IsRankNumber, IsRecordable, IsRecordV1, IsRecordV2, SpellsEntry, WritesEntry, fields_bytes, kind_byte, numbers_v1, numbers_v2, pin_byte, target_of, widths_v1, widths_v2, SpellsLink, WritesLink}
+use Rattle.dirfrag_codec.specs.EntryRecord.{HasItsSpellings, HasRecord, HasTarget, HasWidths, IsPlain, IsRankNumber, IsRecordable, IsRecordV1, IsRecordV2, SpellsEntry, WritesEntry, fields_bytes, kind_byte, numbers_v1, numbers_v2, pin_byte, target_bytes, widths_v1, widths_v2, SpellsLink, WritesLink}
 use Rattle.dirfrag_codec.specs.Reading.{numbers_at, ◌>>=◌, IsFieldsOfLink, IsInodeOf, IsPinOf, RecordFields, fields_at, fields_of_inode, fields_of_version, fields_v1, fields_v2, fits_kind, version_at, where_whole, has_no_pin, has_widths, is_plain}
 use Rattle.dirfrag_codec.proofs.FieldLaws.{Fit, length_fields, numbers_again, AreWidths, numbers_are, numbers_take}
 use Rattle.std.proofs.lemmas.Bool.{eqb-true, and_parts}
@@ -22,7 +22,7 @@ use Rattle.dirfrag_codec.proofs.Front.{IsBytes, bind_some, version_takes, width_
 pub number_decides : (n : ℕ) → Decides (leb (2 ^ 40) n && ltb n (17 * 2 ^ 40)) (IsRankNumber n)
 number_decides n = (λ e. grind (arith, nat_tests), λ h. grind (arith, nat_tests))
 
-target_short : (kind : Kind) → HasTarget kind → length (target_of kind) < 2 ^ 16
+target_short : (kind : Kind) → HasTarget kind → length (target_bytes kind) < 2 ^ 16
 target_short File h = omega arith
 target_short Dir h = omega arith
 target_short (Symlink target) h = omega (arith, h.short)
@@ -49,7 +49,7 @@ one_pin File other (Some rank) None g h e = absurd g
 one_pin (Symlink t) other (Some rank) None g h e = absurd g
 one_pin kind other (Some a) (Some b) g h e = λ i. Some (record { 0 = e i })
 
-one_kind : (k l : Kind) → kind_byte k ≡ kind_byte l → target_of k ≡ target_of l → k ≡ l
+one_kind : (k l : Kind) → kind_byte k ≡ kind_byte l → target_bytes k ≡ target_bytes l → k ≡ l
 one_kind File File e t = refl
 one_kind File Dir e t = absurd (omega arith)
 one_kind File (Symlink x) e t = absurd (omega arith)
@@ -82,7 +82,7 @@ same_fields widths m n s t p q e =
     let same : (m, s) ≡ (n, t) = same_Some (m, s) (n, t) found in
     (ap (λ (x : List ℕ × List ℕ). x.0) same, ap (λ (x : List ℕ × List ℕ). x.1) same)
 
-one_v2 : (a b : Inode) → IsRecordable a → IsRecordable b → numbers_v2 a ≡ numbers_v2 b → target_of a.kind ≡ target_of b.kind → a ≡ b
+one_v2 : (a b : Inode) → IsRecordable a → IsRecordable b → numbers_v2 a ≡ numbers_v2 b → target_bytes a.kind ≡ target_bytes b.kind → a ≡ b
 one_v2 a b p q numbers targets =
     let kind : a.kind ≡ b.kind = one_kind a.kind b.kind (ap (λ l. get_or l 0 0) numbers) targets in
     let pin : a.pin ≡ b.pin = one_pin a.kind b.kind a.pin b.pin p.pin q.pin (ap (λ l. get_or l 7 0) numbers) in
@@ -97,7 +97,7 @@ one_v2 a b p q numbers targets =
       pin = pin i;
     }
 
-one_v1 : (a b : Inode) → IsPlain a → IsPlain b → numbers_v1 a ≡ numbers_v1 b → target_of a.kind ≡ target_of b.kind → a ≡ b
+one_v1 : (a b : Inode) → IsPlain a → IsPlain b → numbers_v1 a ≡ numbers_v1 b → target_bytes a.kind ≡ target_bytes b.kind → a ≡ b
 one_v1 a b p q numbers targets =
     let kind : a.kind ≡ b.kind = one_kind a.kind b.kind (ap (λ l. get_or l 0 0) numbers) targets in
     let uid : a.uid ≡ b.uid = p.uid ∙ sym q.uid in
@@ -122,13 +122,13 @@ apart bytes a b s t =
 pub one_entry : (bytes : List ℕ) (a b : Inode) → SpellsEntry bytes a → SpellsEntry bytes b → a ≡ b
 one_entry bytes a b (inl s) (inl t) =
     let body = (after_two 73 1 73 1 _ _ (sym s.spelled ∙ t.spelled)).1 in
-    let same = same_fields widths_v1 (numbers_v1 a) (numbers_v1 b) (target_of a.kind) (target_of b.kind) (fit_v1 a s.allowed s.widths) (fit_v1 b t.allowed t.widths) body in
+    let same = same_fields widths_v1 (numbers_v1 a) (numbers_v1 b) (target_bytes a.kind) (target_bytes b.kind) (fit_v1 a s.allowed s.widths) (fit_v1 b t.allowed t.widths) body in
     one_v1 a b s.plain t.plain same.0 same.1
 one_entry bytes a b (inl s) (inr t) = absurd (apart bytes a b s t)
 one_entry bytes a b (inr s) (inl t) = absurd (apart bytes b a t s)
 one_entry bytes a b (inr s) (inr t) =
     let body = (after_two 73 2 73 2 _ _ (sym s.spelled ∙ t.spelled)).1 in
-    let same = same_fields widths_v2 (numbers_v2 a) (numbers_v2 b) (target_of a.kind) (target_of b.kind) (fit_v2 a s.allowed s.widths) (fit_v2 b t.allowed t.widths) body in
+    let same = same_fields widths_v2 (numbers_v2 a) (numbers_v2 b) (target_bytes a.kind) (target_bytes b.kind) (fit_v2 a s.allowed s.widths) (fit_v2 b t.allowed t.widths) body in
     one_v2 a b s.allowed t.allowed same.0 same.1
 
 nothing : (s more t : List ℕ) → s ++ more ≡ t → length s ≡ length t → more ≡ []
@@ -150,17 +150,17 @@ behind version bytes more body e = ap (λ (b : List ℕ). b ++ more) e
 
 pub ended : (bytes more : List ℕ) (a b : Inode) → SpellsEntry bytes a → SpellsEntry (bytes ++ more) b → more ≡ []
 ended bytes more a b (inl s) (inl t) =
-    let body = (after_two 73 1 73 1 _ _ (sym (behind 1 bytes more (fields_bytes widths_v1 (numbers_v1 a) ++ target_of a.kind) s.spelled) ∙ t.spelled)).1 in
-    ended_fields 5 widths_v1 (numbers_v1 a) (numbers_v1 b) (target_of a.kind) more (target_of b.kind) (fit_v1 a s.allowed s.widths) (fit_v1 b t.allowed t.widths) refl refl body
+    let body = (after_two 73 1 73 1 _ _ (sym (behind 1 bytes more (fields_bytes widths_v1 (numbers_v1 a) ++ target_bytes a.kind) s.spelled) ∙ t.spelled)).1 in
+    ended_fields 5 widths_v1 (numbers_v1 a) (numbers_v1 b) (target_bytes a.kind) more (target_bytes b.kind) (fit_v1 a s.allowed s.widths) (fit_v1 b t.allowed t.widths) refl refl body
 ended bytes more a b (inl s) (inr t) =
-    let clash : 1 ≡ 2 = (after_two 73 1 73 2 _ _ (sym (behind 1 bytes more (fields_bytes widths_v1 (numbers_v1 a) ++ target_of a.kind) s.spelled) ∙ t.spelled)).0 in
+    let clash : 1 ≡ 2 = (after_two 73 1 73 2 _ _ (sym (behind 1 bytes more (fields_bytes widths_v1 (numbers_v1 a) ++ target_bytes a.kind) s.spelled) ∙ t.spelled)).0 in
     absurd (omega (arith, clash))
 ended bytes more a b (inr s) (inl t) =
-    let clash : 2 ≡ 1 = (after_two 73 2 73 1 _ _ (sym (behind 2 bytes more (fields_bytes widths_v2 (numbers_v2 a) ++ target_of a.kind) s.spelled) ∙ t.spelled)).0 in
+    let clash : 2 ≡ 1 = (after_two 73 2 73 1 _ _ (sym (behind 2 bytes more (fields_bytes widths_v2 (numbers_v2 a) ++ target_bytes a.kind) s.spelled) ∙ t.spelled)).0 in
     absurd (omega (arith, clash))
 ended bytes more a b (inr s) (inr t) =
-    let body = (after_two 73 2 73 2 _ _ (sym (behind 2 bytes more (fields_bytes widths_v2 (numbers_v2 a) ++ target_of a.kind) s.spelled) ∙ t.spelled)).1 in
-    ended_fields 8 widths_v2 (numbers_v2 a) (numbers_v2 b) (target_of a.kind) more (target_of b.kind) (fit_v2 a s.allowed s.widths) (fit_v2 b t.allowed t.widths) refl refl body
+    let body = (after_two 73 2 73 2 _ _ (sym (behind 2 bytes more (fields_bytes widths_v2 (numbers_v2 a) ++ target_bytes a.kind) s.spelled) ∙ t.spelled)).1 in
+    ended_fields 8 widths_v2 (numbers_v2 a) (numbers_v2 b) (target_bytes a.kind) more (target_bytes b.kind) (fit_v2 a s.allowed s.widths) (fit_v2 b t.allowed t.widths) refl refl body
 
 pub its_spellings : HasItsSpellings
 its_spellings = record {
@@ -185,9 +185,9 @@ recorded bytes inode (inr s) = its_spellings.written inode s.allowed s.widths
 pub written_short : (bytes : List ℕ) (inode : Inode) → WritesEntry bytes inode → length bytes < 256 ^ 2
 written_short bytes inode s =
     let many : length (fields_bytes widths_v2 (numbers_v2 inode)) ≡ 38 = length_fields widths_v2 (numbers_v2 inode) (fit_v2 inode s.allowed s.widths) in
-    rw s.spelled (all_short (fields_bytes widths_v2 (numbers_v2 inode)) (target_of inode.kind) many (target_few inode.kind s.allowed.target))
+    rw s.spelled (all_short (fields_bytes widths_v2 (numbers_v2 inode)) (target_bytes inode.kind) many (target_few inode.kind s.allowed.target))
   where
-    target_few : (kind : Kind) → HasTarget kind → length (target_of kind) ≤ 4095
+    target_few : (kind : Kind) → HasTarget kind → length (target_bytes kind) ≤ 4095
     target_few File h = omega arith
     target_few Dir h = omega arith
     target_few (Symlink target) h = h.short
@@ -280,10 +280,10 @@ whole_again widths numbers place fields target fit states =
 pub fields_of_record : (bytes : List ℕ) (inode : Inode) → SpellsEntry bytes inode → fields_at bytes ≡ Some (fields_of_inode inode)
 unfolding fields_at
 fields_of_record bytes inode (inl s) =
-    ap fields_at s.spelled ∙ whole_again widths_v1 (numbers_v1 inode) 5 fields_v1 (target_of inode.kind) (fit_v1 inode s.allowed s.widths) refl
+    ap fields_at s.spelled ∙ whole_again widths_v1 (numbers_v1 inode) 5 fields_v1 (target_bytes inode.kind) (fit_v1 inode s.allowed s.widths) refl
     ∙ ap (λ (f : RecordFields). Some f) plain
   where
-    plain : fields_v1 (numbers_v1 inode) (target_of inode.kind) ≡ fields_of_inode inode
+    plain : fields_v1 (numbers_v1 inode) (target_bytes inode.kind) ≡ fields_of_inode inode
     plain = λ i. record {
       kind = kind_byte inode.kind;
       ino = inode.ino.0;
@@ -293,10 +293,10 @@ fields_of_record bytes inode (inl s) =
       uid = (sym s.plain.uid) i;
       gid = (sym s.plain.gid) i;
       pin = pin_byte ((sym s.plain.pin) i);
-      target = target_of inode.kind;
+      target = target_bytes inode.kind;
     }
 fields_of_record bytes inode (inr s) =
-    ap fields_at s.spelled ∙ whole_again widths_v2 (numbers_v2 inode) 8 fields_v2 (target_of inode.kind) (fit_v2 inode s.allowed s.widths) refl
+    ap fields_at s.spelled ∙ whole_again widths_v2 (numbers_v2 inode) 8 fields_v2 (target_bytes inode.kind) (fit_v2 inode s.allowed s.widths) refl
 
 -- no pin has the byte 255 but none
 no_pin : (kind : Kind) (pin : Option Rank) → HasPinOf kind pin → pin_byte pin ≡ 255 → pin ≡ None
@@ -316,7 +316,7 @@ spells_v1 bytes inode f may same w = record {
     alike : fields_v1 w.numbers w.target ≡ fields_of_inode inode
     alike = w.is ∙ sym same
 
-    len : get_or w.numbers 5 0 ≡ length (target_of inode.kind)
+    len : get_or w.numbers 5 0 ≡ length (target_bytes inode.kind)
     len = sym w.len ∙ ap (λ (g : RecordFields). length g.target) alike
 
     numbers : w.numbers ≡ numbers_v1 inode
@@ -341,7 +341,7 @@ spells_v2 bytes inode f may same w = record {
     alike : fields_v2 w.numbers w.target ≡ fields_of_inode inode
     alike = w.is ∙ sym same
 
-    len : get_or w.numbers 8 0 ≡ length (target_of inode.kind)
+    len : get_or w.numbers 8 0 ≡ length (target_bytes inode.kind)
     len = sym w.len ∙ ap (λ (g : RecordFields). length g.target) alike
 
     numbers : w.numbers ≡ numbers_v2 inode
@@ -400,7 +400,7 @@ entry_refused bytes read = λ inode s.
 
 -- ---- what is written
 
-written_at : (bytes : List ℕ) (inode : Inode) → WritesEntry bytes inode → version_at 73 bytes ≡ Some (2, fields_bytes widths_v2 (numbers_v2 inode) ++ target_of inode.kind)
+written_at : (bytes : List ℕ) (inode : Inode) → WritesEntry bytes inode → version_at 73 bytes ≡ Some (2, fields_bytes widths_v2 (numbers_v2 inode) ++ target_bytes inode.kind)
 written_at bytes inode s = ap (version_at 73) s.spelled
 
 pub written_answered : {E : Type 0} (bytes : List ℕ) (version : ℕ) (rest : List ℕ) (answer : Result (Option Inode) E) → version_at 73 bytes ≡ Some (version, rest) → version ≡ 2
@@ -409,7 +409,7 @@ written_answered bytes version rest (Err e) read second h = tt
 written_answered bytes version rest (Ok None) read second h = λ inode s. h inode (inr s)
 written_answered bytes version rest (Ok (Some inode)) read second (inr s) = s
 written_answered bytes version rest (Ok (Some inode)) read second (inl s) =
-    let found = same_Some (version, rest) (1, fields_bytes widths_v1 (numbers_v1 inode) ++ target_of inode.kind) (sym read ∙ ap (version_at 73) s.spelled) in
+    let found = same_Some (version, rest) (1, fields_bytes widths_v1 (numbers_v1 inode) ++ target_bytes inode.kind) (sym read ∙ ap (version_at 73) s.spelled) in
     absurd (omega (arith, second, ap (λ (p : ℕ × List ℕ). p.0) found))
 
 pub written_link : {A E : Type 0} (bytes : List ℕ) (version : ℕ) (rest : List ℕ) (answer : Result A E) → version_at 73 bytes ≡ Some (version, rest) → version ≡ 2 → OnErr answer (SpellsLink bytes) → OnErr answer (WritesLink bytes)
@@ -419,10 +419,10 @@ written_link bytes version rest (Err e) read second (inode, spelled, link) = (in
 pub written_unless : (bytes : List ℕ) → version_at 73 bytes ≡ None → Decodes WritesEntry bytes None
 written_unless bytes none = λ inode s.
     let found = written_at bytes inode s in
-    let clash : None ≡ Some (2, fields_bytes widths_v2 (numbers_v2 inode) ++ target_of inode.kind) = sym none ∙ found in
+    let clash : None ≡ Some (2, fields_bytes widths_v2 (numbers_v2 inode) ++ target_bytes inode.kind) = sym none ∙ found in
     absurd cc
 
 pub written_other : (bytes : List ℕ) (version : ℕ) (rest : List ℕ) → version_at 73 bytes ≡ Some (version, rest) → version ≢ 2 → Decodes WritesEntry bytes None
 written_other bytes version rest read other = λ inode s.
-    let found = same_Some (version, rest) (2, fields_bytes widths_v2 (numbers_v2 inode) ++ target_of inode.kind) (sym read ∙ written_at bytes inode s) in
+    let found = same_Some (version, rest) (2, fields_bytes widths_v2 (numbers_v2 inode) ++ target_bytes inode.kind) (sym read ∙ written_at bytes inode s) in
     other (ap (λ (p : ℕ × List ℕ). p.0) found)

@@ -1,5 +1,5 @@
 -- Words of leaves that tile the hashes, read one after the other.
-use Rattle.dirfrag_codec.proofs.Common.{AreTilesFrom, AreTreeOf, BeginsWith, BeginsWithNone, Bool, Decodes, EndsAt, Fragment, IsFragment, IsSome, IsTrue, List, None, Option, Some, SpellsTree, Tiles, [], ap, arith, eq-eqb, eqb, false, flat_map, flat_map-cons, leaf_bytes, length, little_bytes, nil_from_length, none-some, number_at, refl, same_Some, span, subst, sym, tree_of, true, word_of, words_at, ℕ, ◌*◌, ◌++◌, ◌+◌, ◌^◌, ◌↔◌, ◌∙◌, ◌∷◌, ◌≡◌, ◌≤◌}
+use Rattle.dirfrag_codec.proofs.Common.{AreTilesFrom, AreTreeOf, BeginsWith, BeginsWithNone, Bool, Decodes, EndsAt, Fragment, IsFragment, IsSome, IsTrue, List, None, Option, Some, SpellsTree, Tiles, [], ap, arith, eq-eqb, eqb, false, flat_map, flat_map-cons, leaf_bytes, length, little_bytes, nil_from_length, none-some, number_at, refl, same_Some, span, subst, sym, tree_of_bytes, true, word_of, words_at, ℕ, ◌*◌, ◌++◌, ◌+◌, ◌^◌, ◌↔◌, ◌∙◌, ◌∷◌, ◌≡◌, ◌≤◌}
 use Rattle.std.proofs.Common.{eqb-true}
 use Rattle.dirfrag_codec.proofs.Front.{IsBytes, number_again, number_takes, width_4}
 use Rattle.dirfrag_codec.proofs.TreeLaws.{four_each, fragments_of, one_fragment, some_word, tree_decoded, word_low, words_of_tree}
@@ -85,8 +85,8 @@ too_many words many = (λ told. absurd cc, none)
 pub no_tree : (bytes words : List ℕ) → words_at bytes ≡ Some words → (AreTreeOf words → ⊥) → Decodes SpellsTree bytes None
 no_tree bytes words read none leaves s = none (leaves, s.tree, same_Some words (flat_map leaf_bytes leaves) (sym read ∙ words_of_tree bytes leaves s))
 
-pub some_tree : (bytes words : List ℕ) → IsBytes bytes → words_at bytes ≡ Some words → AreTreeOf words → IsSome (tree_of bytes)
-some_tree bytes words fits read (leaves, tree, is) = go (tree_of bytes) (reads_tree bytes)
+pub some_tree : (bytes words : List ℕ) → IsBytes bytes → words_at bytes ≡ Some words → AreTreeOf words → IsSome (tree_of_bytes bytes)
+some_tree bytes words fits read (leaves, tree, is) = go (tree_of_bytes bytes) (reads_tree bytes)
   where
     spelled : SpellsTree bytes leaves
     spelled = tree_decoded bytes words leaves (Some leaves) fits read (fragments_of leaves tree) is (tree, refl)

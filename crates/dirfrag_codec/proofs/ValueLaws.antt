@@ -22,13 +22,13 @@ use Rattle.mds_types.specs.declared.inodes.Kind.TheVariants.{File, Dir, Symlink}
 use Rattle.fragtree.specs.FragTree.{Tiles}
 use Rattle.objstore.specs.EntryKeys.{entry_key}
 use Rattle.dirfrag_codec.specs.declared.headers.FragHeader.{FragHeader}
-use Rattle.dirfrag_codec.specs.EntryRecord.{HasTarget, IsRecordable, IsRecordV1, IsRecordV2, SpellsEntry, WritesEntry, kind_byte, pin_byte, record_v1, record_v2, target_of}
+use Rattle.dirfrag_codec.specs.EntryRecord.{HasTarget, IsRecordable, IsRecordV1, IsRecordV2, SpellsEntry, WritesEntry, kind_byte, pin_byte, record_v1, record_v2, target_bytes}
 use Rattle.dirfrag_codec.specs.FragHeader.{SpellsHeader, header_bytes}
 use Rattle.dirfrag_codec.specs.FragmentObject.{SpellsKey}
-use Rattle.dirfrag_codec.specs.Grammar.{Decodes, HasOneMeaning, Reads}
-use Rattle.dirfrag_codec.specs.Reading.{◌>>=◌, RecordFields, fields_of_inode, header_at, inode_with, pin_of_byte}
+use Rattle.dirfrag_codec.specs.Grammar.{Decodes, HasOneMeaning, IsReaderOf}
+use Rattle.dirfrag_codec.specs.Reading.{◌>>=◌, RecordFields, fields_of_inode, header_read_at, inode_with, pin_of_byte}
 use Rattle.dirfrag_codec.specs.TreeObject.{SpellsTree, leaf_bytes, tree_bytes}
-use Rattle.dirfrag_codec.specs.Values.{all_leaves_at, allows, do_tile, entry_of, fragment_of, front_of, has_pin, has_size, has_target, header_of, inode_at, is_fragment, is_header, is_name, is_record_v1, is_record_v2, is_tree, is_written, kind_of, leaves_at, name_of, tree_of, written_of}
+use Rattle.dirfrag_codec.specs.Values.{all_leaves_at, allows, do_tile, inode_of_record, word_fragment, front_of, may_have_pin, has_size, has_target, header_of, inode_at, is_fragment, is_header, is_name, is_record_v1, is_record_v2, spells_tree, is_written, kind_of, leaves_of_numbers, name_of_key, tree_of_bytes, written_of}
 use Rattle.dirfrag_codec.proofs.HeaderLaws.{header_again}
 use Rattle.dirfrag_codec.proofs.RecordLaws.{allowed, fields_of_record, number_decides, plain_decides, widths_decides}
 use Rattle.dirfrag_codec.proofs.TreeLaws.{four_each, fragments_of, words_of_tree, word_low}
@@ -53,13 +53,13 @@ one_reading Spells one bytes (Some v) None s t = absurd (t v s)
 one_reading Spells one bytes None (Some w) s t = absurd (s w t)
 one_reading Spells one bytes None None s t = refl
 
-pub reading_answered : {V E : Type 0} (Spells : List ℕ → V → Type 0) (read : List ℕ → Option V) → HasOneMeaning Spells → Reads Spells read → (bytes : List ℕ) (answer : Result (Option V) E)
+pub reading_answered : {V E : Type 0} (Spells : List ℕ → V → Type 0) (read : List ℕ → Option V) → HasOneMeaning Spells → IsReaderOf Spells read → (bytes : List ℕ) (answer : Result (Option V) E)
     → IfOk answer (Decodes Spells bytes) → IfOk answer (λ found. found ≡ read bytes)
 reading_answered Spells read one reads bytes (Ok found) h = one_reading Spells one bytes found (read bytes) h (reads bytes)
 reading_answered Spells read one reads bytes (Err e) h = tt
 
 -- a spelled value is the one that is read
-pub read_as : {V : Type 0} (Spells : List ℕ → V → Type 0) (read : List ℕ → Option V) → HasOneMeaning Spells → Reads Spells read → (bytes : List ℕ) (v : V) → Spells bytes v → read bytes ≡ Some v
+pub read_as : {V : Type 0} (Spells : List ℕ → V → Type 0) (read : List ℕ → Option V) → HasOneMeaning Spells → IsReaderOf Spells read → (bytes : List ℕ) (v : V) → Spells bytes v → read bytes ≡ Some v
 read_as {V} Spells read one reads bytes v s = go (read bytes) (reads bytes)
   where
     go : (r : Option V) → Decodes Spells bytes r → r ≡ Some v
@@ -67,7 +67,7 @@ read_as {V} Spells read one reads bytes v s = go (read bytes) (reads bytes)
     go None t = absurd (t v s)
 
 -- a value that is read is spelled
-pub spelled_as : {V : Type 0} (Spells : List ℕ → V → Type 0) (read : List ℕ → Option V) → Reads Spells read → (bytes : List ℕ) (v : V) → read bytes ≡ Some v → Spells bytes v
+pub spelled_as : {V : Type 0} (Spells : List ℕ → V → Type 0) (read : List ℕ → Option V) → IsReaderOf Spells read → (bytes : List ℕ) (v : V) → read bytes ≡ Some v → Spells bytes v
 spelled_as Spells read reads bytes v is = subst (Decodes Spells bytes) is (reads bytes)
 
 -- ---- tests
@@ -93,7 +93,7 @@ has_size_decides File size = (λ _. tt, λ _. refl)
 has_size_decides Dir size = Decides-eqb size 0
 has_size_decides (Symlink target) size = Decides-eqb size (length target)
 
-has_pin_decides : (kind : Kind) (pin : Option Rank) → Decides (has_pin kind pin) (HasPinOf kind pin)
+has_pin_decides : (kind : Kind) (pin : Option Rank) → Decides (may_have_pin kind pin) (HasPinOf kind pin)
 has_pin_decides kind None = (λ _. tt, λ _. refl)
 has_pin_decides File (Some rank) = (λ e. cc, λ h. absurd h)
 has_pin_decides Dir (Some rank) = Decides-ltb rank.0 16
@@ -144,7 +144,7 @@ tiles_decides low high (f ∷ fs) =
     Decides-like _ (λ p. (p.0, p.1.0, p.1.1)) (λ h. (h.0, (h.1, h.2)))
     (Decides-and _ _ (fragment_decides f) (Decides-and _ _ (Decides-eqb f.value low) (tiles_decides (low + span f.bits) high fs)))
 
-tree_decides : (bytes : List ℕ) (leaves : List Fragment) → Decides (is_tree bytes leaves) (SpellsTree bytes leaves)
+tree_decides : (bytes : List ℕ) (leaves : List Fragment) → Decides (spells_tree bytes leaves) (SpellsTree bytes leaves)
 tree_decides bytes leaves =
     Decides-like _ (λ p. record { tree = record { tiles = p.0.0; few = p.0.1 }; several = p.1.0; spelled = p.1.1 }) (λ h. ((h.tree.tiles, h.tree.few), (h.several, h.spelled)))
     (Decides-and _ _ (Decides-and _ _ (tiles_decides 0 (2 ^ 24) leaves) (le_decides (length leaves) 4096)) (Decides-and _ _ (le_decides 2 (length leaves)) (bytes_eq-Decides bytes (tree_bytes leaves))))
@@ -156,7 +156,7 @@ name_decides bytes =
 
 -- ---- what is read first
 
-kind_again : (kind : Kind) → kind_of (kind_byte kind) (target_of kind) ≡ Some kind
+kind_again : (kind : Kind) → kind_of (kind_byte kind) (target_bytes kind) ≡ Some kind
 kind_again File = refl
 kind_again Dir = refl
 kind_again (Symlink target) = refl
@@ -174,32 +174,32 @@ entry_first bytes inode s =
     ∙ ap (λ (r : Option Kind). r >>= λ kind. Some (inode_with (fields_of_inode inode) kind)) (kind_again inode.kind)
     ∙ ap (λ (pin : Option Rank). Some (record inode { pin = pin })) (pin_again inode.kind inode.pin (allowed bytes inode s).pin)
 
-header_first : (bytes : List ℕ) (header : FragHeader) → SpellsHeader bytes header → header_at bytes ≡ Some header
-header_first bytes header s = ap header_at s.spelled ∙ header_again header s.committed s.version s.files s.dirs
+header_first : (bytes : List ℕ) (header : FragHeader) → SpellsHeader bytes header → header_read_at bytes ≡ Some header
+header_first bytes header s = ap header_read_at s.spelled ∙ header_again header s.committed s.version s.files s.dirs
 
-pub fragment_again : (f : Fragment) → IsFragment f → fragment_of (word_of f) ≡ f
+pub fragment_again : (f : Fragment) → IsFragment f → word_fragment (word_of f) ≡ f
 fragment_again f h =
     let bits : word_of f / 2 ^ 24 ≡ f.bits = omega (arith, h.in_range) in
     let value : word_of f % 2 ^ 24 ≡ f.value = omega (arith, h.in_range) in
     λ i. record { bits = bits i; value = value i }
 
-leaves_again : (fs : List Fragment) → AllByRecursion IsFragment fs → leaves_at (length fs) (flat_map leaf_bytes fs) ≡ fs
+leaves_again : (fs : List Fragment) → AllByRecursion IsFragment fs → leaves_of_numbers (length fs) (flat_map leaf_bytes fs) ≡ fs
 leaves_again [] all = refl
 leaves_again (f ∷ fs) all =
     let word : little_number 4 (flat_map leaf_bytes (f ∷ fs)) ≡ word_of f =
     ap (little_number 4) (flat_map-cons leaf_bytes f fs) ∙ little_number-reads_back 4 (word_of f) (flat_map leaf_bytes fs) (word_low f all.0) in
     let rest : drop 4 (flat_map leaf_bytes (f ∷ fs)) ≡ flat_map leaf_bytes fs =
     ap (drop 4) (flat_map-cons leaf_bytes f fs) ∙ drop_at (leaf_bytes f) (flat_map leaf_bytes fs) 4 (length-bytes_low_first 0 4 (word_of f)) in
-    ap (λ (w : ℕ). fragment_of w ∷ leaves_at (length fs) (drop 4 (flat_map leaf_bytes (f ∷ fs)))) word
-    ∙ ap (λ (g : Fragment). g ∷ leaves_at (length fs) (drop 4 (flat_map leaf_bytes (f ∷ fs)))) (fragment_again f all.0)
-    ∙ ap (λ (words : List ℕ). f ∷ leaves_at (length fs) words) rest ∙ ap (λ (gs : List Fragment). f ∷ gs) (leaves_again fs all.1)
+    ap (λ (w : ℕ). word_fragment w ∷ leaves_of_numbers (length fs) (drop 4 (flat_map leaf_bytes (f ∷ fs)))) word
+    ∙ ap (λ (g : Fragment). g ∷ leaves_of_numbers (length fs) (drop 4 (flat_map leaf_bytes (f ∷ fs)))) (fragment_again f all.0)
+    ∙ ap (λ (words : List ℕ). f ∷ leaves_of_numbers (length fs) words) rest ∙ ap (λ (gs : List Fragment). f ∷ gs) (leaves_again fs all.1)
 
 tree_first : (bytes : List ℕ) (leaves : List Fragment) → SpellsTree bytes leaves → all_leaves_at bytes ≡ Some leaves
 unfolding all_leaves_at
 tree_first bytes leaves s =
     let count : length (flat_map leaf_bytes leaves) / 4 ≡ length leaves = omega (arith, four_each leaves) in
-    ap (λ (r : Option (List ℕ)). r >>= λ words. Some (leaves_at (length words / 4) words)) (words_of_tree bytes leaves s)
-    ∙ ap (λ (n : ℕ). Some (leaves_at n (flat_map leaf_bytes leaves))) count ∙ ap (λ (fs : List Fragment). Some fs) (leaves_again leaves (fragments_of leaves s.tree))
+    ap (λ (r : Option (List ℕ)). r >>= λ words. Some (leaves_of_numbers (length words / 4) words)) (words_of_tree bytes leaves s)
+    ∙ ap (λ (n : ℕ). Some (leaves_of_numbers n (flat_map leaf_bytes leaves))) count ∙ ap (λ (fs : List Fragment). Some fs) (leaves_again leaves (fragments_of leaves s.tree))
 
 pub front_again : (name : List ℕ) → front_of (entry_key name) ≡ name
 front_again name =
@@ -211,24 +211,24 @@ key_first key name s = ap (λ (k : List ℕ). Some (front_of k)) s.1 ∙ ap (λ 
 
 -- ---- the functions
 
-pub reads_entry : Reads SpellsEntry entry_of
-unfolding entry_of
+pub reads_entry : IsReaderOf SpellsEntry inode_of_record
+unfolding inode_of_record
 reads_entry bytes = guarded SpellsEntry bytes (inode_at bytes) (λ inode. is_record_v1 bytes inode || is_record_v2 bytes inode) (entry_decides bytes) (entry_first bytes)
 
-pub reads_written : Reads WritesEntry written_of
+pub reads_written : IsReaderOf WritesEntry written_of
 unfolding written_of
 reads_written bytes = guarded WritesEntry bytes (inode_at bytes) (is_written bytes) (written_decides bytes) (λ inode s. entry_first bytes inode (inr s))
 
-pub reads_header : Reads SpellsHeader header_of
+pub reads_header : IsReaderOf SpellsHeader header_of
 unfolding header_of
-reads_header bytes = guarded SpellsHeader bytes (header_at bytes) (is_header bytes) (header_decides bytes) (header_first bytes)
+reads_header bytes = guarded SpellsHeader bytes (header_read_at bytes) (is_header bytes) (header_decides bytes) (header_first bytes)
 
-pub reads_tree : Reads SpellsTree tree_of
-unfolding tree_of
-reads_tree bytes = guarded SpellsTree bytes (all_leaves_at bytes) (is_tree bytes) (tree_decides bytes) (tree_first bytes)
+pub reads_tree : IsReaderOf SpellsTree tree_of_bytes
+unfolding tree_of_bytes
+reads_tree bytes = guarded SpellsTree bytes (all_leaves_at bytes) (spells_tree bytes) (tree_decides bytes) (tree_first bytes)
 
-pub reads_key : Reads SpellsKey name_of
-unfolding name_of
+pub reads_key : IsReaderOf SpellsKey name_of_key
+unfolding name_of_key
 reads_key key =
     guarded SpellsKey key (Some (front_of key)) (λ name. is_name name && bytes_eq key (entry_key name))
     (λ name. Decides-and (is_name name) (bytes_eq key (entry_key name)) (name_decides name) (bytes_eq-Decides key (entry_key name))) (key_first key)

@@ -15,10 +15,10 @@ kind_byte Dir = 2
 kind_byte (Symlink target) = 3
 
 -- what a link points to; nothing for the other kinds
-abbrev pub target_of : Kind → List ℕ
-target_of File = []
-target_of Dir = []
-target_of (Symlink target) = target
+abbrev pub target_bytes : Kind → List ℕ
+target_bytes File = []
+target_bytes Dir = []
+target_bytes (Symlink target) = target
 
 -- a link has a target as POSIX.1 bounds it: 1 to 4095 bytes, none zero
 abbrev pub HasTarget : Kind → Type 0
@@ -82,7 +82,7 @@ abbrev pub widths_v1 : List ℕ
 widths_v1 = widths_front ++ 2 ∷ []
 
 abbrev pub numbers_v1 : Inode → List ℕ
-numbers_v1 inode = numbers_front inode ++ length (target_of inode.kind) ∷ []
+numbers_v1 inode = numbers_front inode ++ length (target_bytes inode.kind) ∷ []
 
 -- version 2: then owner, group and pin, and the target's length
 abbrev pub widths_v2 : List ℕ
@@ -90,11 +90,11 @@ widths_v2 = widths_front ++ 4 ∷ 4 ∷ 1 ∷ 2 ∷ []
 
 abbrev pub numbers_v2 : Inode → List ℕ
 numbers_v2 inode =
-    numbers_front inode ++ inode.uid ∷ inode.gid ∷ pin_byte inode.pin ∷ length (target_of inode.kind) ∷ []
+    numbers_front inode ++ inode.uid ∷ inode.gid ∷ pin_byte inode.pin ∷ length (target_bytes inode.kind) ∷ []
 
 -- the letter I, the version, the fields and the target
 abbrev pub record_with : ℕ → List ℕ → List ℕ → Inode → List ℕ
-record_with version widths numbers inode = codes "I" ++ version ∷ (fields_bytes widths numbers ++ target_of inode.kind)
+record_with version widths numbers inode = codes "I" ++ version ∷ (fields_bytes widths numbers ++ target_bytes inode.kind)
 
 abbrev pub record_v1 : Inode → List ℕ
 record_v1 inode = record_with 1 widths_v1 (numbers_v1 inode) inode

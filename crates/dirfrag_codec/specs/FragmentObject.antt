@@ -12,7 +12,7 @@ use Rattle.dirfrag_codec.specs.EntryRecord.{SpellsEntry}
 use Rattle.dirfrag_codec.specs.FragHeader.{SpellsHeader}
 use Rattle.dirfrag_codec.specs.TreeObject.{SpellsTree}
 use Rattle.dirfrag_codec.specs.Reading.{◌>>=◌}
-use Rattle.dirfrag_codec.specs.Values.{entry_of, is_name, name_of}
+use Rattle.dirfrag_codec.specs.Values.{inode_of_record, is_name, name_of_key}
 
 -- the names of a fragment, each with its inode, in the order of the names
 abbrev pub Names : Type 0
@@ -77,28 +77,28 @@ abbrev pub SpellsKey : List ℕ → List ℕ → Type 0
 SpellsKey key name = IsName name × (key ≡ entry_key name)
 
 -- names with one more: where the key is a name's and the bytes are a record
-abbrev pub with_entry : Names → Option (List ℕ) → Option Inode → Names
-with_entry names (Some name) (Some inode) = map.insert names name inode
-with_entry names (Some name) None = names
-with_entry names None inode = names
+abbrev pub with_pair : Names → Option (List ℕ) → Option Inode → Names
+with_pair names (Some name) (Some inode) = map.insert names name inode
+with_pair names (Some name) None = names
+with_pair names None inode = names
 
-abbrev pub names_in : List (List ℕ × List ℕ) → Names
-names_in [] = map.empty
-names_in (pair ∷ pairs) = with_entry (names_in pairs) (name_of pair.0) (entry_of pair.1)
+abbrev pub names_of_list : List (List ℕ × List ℕ) → Names
+names_of_list [] = map.empty
+names_of_list (pair ∷ pairs) = with_pair (names_of_list pairs) (name_of_key pair.0) (inode_of_record pair.1)
 
 -- the names that pairs show, each with its inode; a pair off the grammar shows nothing
-unfoldable pub names_of : PairMap → Names
-names_of pairs = names_in (map.entries pairs)
+unfoldable pub names_of_pairs : PairMap → Names
+names_of_pairs pairs = names_of_list (map.entries pairs)
 
 -- what pairs show at a name: the inode of the record under the name's key
-abbrev pub shown_at : PairMap → List ℕ → Option Inode
-shown_at pairs name = if is_name name then (map.get pairs (entry_key name) >>= entry_of) else None
+abbrev pub pair_shown_at : PairMap → List ℕ → Option Inode
+pair_shown_at pairs name = if is_name name then (map.get pairs (entry_key name) >>= inode_of_record) else None
 
 -- the names that pairs show are those under whose keys they have records
 abbrev pub ShowsAtEach : Type 0
-ShowsAtEach = (pairs : PairMap) (name : List ℕ) → map.get (names_of pairs) name ≡ shown_at pairs name
+ShowsAtEach = (pairs : PairMap) (name : List ℕ) → map.get (names_of_pairs pairs) name ≡ pair_shown_at pairs name
 
 -- the names that an object spells are those that it shows
 abbrev pub SpellsWhatItShows : Type 0
 SpellsWhatItShows =
-    (object : Omap) (version : ℕ) (names : Names) → SpellsFragment object version names → names ≡ names_of object.pairs
+    (object : Omap) (version : ℕ) (names : Names) → SpellsFragment object version names → names ≡ names_of_pairs object.pairs

@@ -7,8 +7,8 @@ Decodes Spells bytes (Some value) = Spells bytes value
 Decodes {V} Spells bytes None = (value : V) → Spells bytes value → ⊥
 
 -- a function that reads the format: it gives a value exactly where the bytes spell it
-abbrev pub Reads : {V : Type 0} → (List ℕ → V → Type 0) → (List ℕ → Option V) → Type 0
-Reads Spells read = (bytes : List ℕ) → Decodes Spells bytes (read bytes)
+abbrev pub IsReaderOf : {V : Type 0} → (List ℕ → V → Type 0) → (List ℕ → Option V) → Type 0
+IsReaderOf Spells read = (bytes : List ℕ) → Decodes Spells bytes (read bytes)
 
 -- what is written for a value is read as that value
 abbrev pub IsReadAgain : {V : Type 0} → (List ℕ → V → Type 0) → (List ℕ → V → Type 0) → Type 0

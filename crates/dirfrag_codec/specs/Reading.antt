@@ -7,7 +7,7 @@ use Rattle.mds_types.specs.declared.ids.Rank.{Rank}
 use Rattle.mds_types.specs.declared.inodes.Inode.{Inode}
 use Rattle.mds_types.specs.declared.inodes.Kind.{Kind}
 use Rattle.dirfrag_codec.specs.declared.headers.FragHeader.{FragHeader}
-use Rattle.dirfrag_codec.specs.EntryRecord.{HasTarget, IsLink, IsRecordable, kind_byte, pin_byte, target_of, widths_v1, widths_v2}
+use Rattle.dirfrag_codec.specs.EntryRecord.{HasTarget, IsLink, IsRecordable, kind_byte, pin_byte, target_bytes, widths_v1, widths_v2}
 
 infixl 10 ◌>>=◌
 abbrev pub ◌>>=◌ : {A B : Type 0} → Option A → (A → Option B) → Option B
@@ -116,7 +116,7 @@ fields_of_inode inode =
       uid = inode.uid;
       gid = inode.gid;
       pin = pin_byte inode.pin;
-      target = target_of inode.kind;
+      target = target_bytes inode.kind;
     }
 
 -- the pin of a byte
@@ -168,16 +168,16 @@ fits_kind f =
 
 -- the kind of this byte with this target; none if there is none
 abbrev pub IsKindOf : ℕ → List ℕ → Option Kind → Type 0
-IsKindOf byte target (Some kind) = HasTarget kind × (kind_byte kind ≡ byte) × (target_of kind ≡ target)
-IsKindOf byte target None = (kind : Kind) → HasTarget kind → kind_byte kind ≡ byte → target_of kind ≡ target → ⊥
+IsKindOf byte target (Some kind) = HasTarget kind × (kind_byte kind ≡ byte) × (target_bytes kind ≡ target)
+IsKindOf byte target None = (kind : Kind) → HasTarget kind → kind_byte kind ≡ byte → target_bytes kind ≡ target → ⊥
 
 -- the pin of this byte in a record of this kind; none if there is none
 abbrev pub IsPinOf : ℕ → ℕ → Option (Option Rank) → Type 0
 IsPinOf kind byte (Some pin) = (pin_byte pin ≡ byte) × ((k : Kind) → kind_byte k ≡ kind → HasPinOf k pin)
 IsPinOf kind byte None = (k : Kind) (pin : Option Rank) → HasPinOf k pin → kind_byte k ≡ kind → pin_byte pin ≡ byte → ⊥
 
-unfoldable pub header_at : List ℕ → Option FragHeader
-header_at bytes = do
+unfoldable pub header_read_at : List ℕ → Option FragHeader
+header_read_at bytes = do
   tagged ← after_tag 70 1 bytes
   version ← number_at 8 tagged
   files ← number_at 8 version.1

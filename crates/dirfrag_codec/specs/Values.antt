@@ -15,7 +15,7 @@ use Rattle.dirfrag_codec.specs.declared.headers.FragHeader.{FragHeader}
 use Rattle.dirfrag_codec.specs.EntryRecord.{record_v1, record_v2}
 use Rattle.dirfrag_codec.specs.FragHeader.{header_bytes}
 use Rattle.dirfrag_codec.specs.TreeObject.{tree_bytes}
-use Rattle.dirfrag_codec.specs.Reading.{◌>>=◌, fields_at, has_widths, header_at, inode_with, is_plain, words_at}
+use Rattle.dirfrag_codec.specs.Reading.{◌>>=◌, fields_at, has_widths, header_read_at, inode_with, is_plain, words_at}
 
 -- ---- records
 
@@ -37,18 +37,18 @@ has_target Dir = true
 has_target (Symlink target) = nat_lt 0 (length target) && (nat_le (length target) 4095 && list_all fits_target target)
 
 -- whether the kind may have the pin
-abbrev pub has_pin : Kind → Option Rank → Bool
-has_pin kind None = true
-has_pin File (Some rank) = false
-has_pin Dir (Some rank) = nat_lt rank.0 16
-has_pin (Symlink target) (Some rank) = false
+abbrev pub may_have_pin : Kind → Option Rank → Bool
+may_have_pin kind None = true
+may_have_pin File (Some rank) = false
+may_have_pin Dir (Some rank) = nat_lt rank.0 16
+may_have_pin (Symlink target) (Some rank) = false
 
 -- whether a record allows the inode
 abbrev pub allows : Inode → Bool
 allows inode =
     (nat_le (2 ^ 40) inode.ino.0 && nat_lt inode.ino.0 (17 * 2 ^ 40))
     && (nat_le inode.mode 4095 && (has_size inode.kind inode.size
-    && (has_target inode.kind && has_pin inode.kind inode.pin)))
+    && (has_target inode.kind && may_have_pin inode.kind inode.pin)))
 
 -- whether the bytes are the record of the inode in a version
 abbrev pub is_record_v1 : List ℕ → Inode → Bool
@@ -69,8 +69,8 @@ inode_at bytes = do
   Some (inode_with fields kind)
 
 -- the inode whose record the bytes are
-unfoldable pub entry_of : List ℕ → Option Inode
-entry_of bytes = do
+unfoldable pub inode_of_record : List ℕ → Option Inode
+inode_of_record bytes = do
   inode ← inode_at bytes
   if is_record_v1 bytes inode || is_record_v2 bytes inode then Some inode else None
 
@@ -90,19 +90,19 @@ is_header bytes header = nat_le 1 header.version && (nat_lt header.version (2 ^ 
 -- the header that the bytes are
 unfoldable pub header_of : List ℕ → Option FragHeader
 header_of bytes = do
-  header ← header_at bytes
+  header ← header_read_at bytes
   if is_header bytes header then Some header else None
 
 -- ---- fragment trees
 
 -- the fragment of a word, be it one or not
-abbrev pub fragment_of : ℕ → Fragment
-fragment_of word = record { bits = word / 2 ^ 24; value = word % 2 ^ 24 }
+abbrev pub word_fragment : ℕ → Fragment
+word_fragment word = record { bits = word / 2 ^ 24; value = word % 2 ^ 24 }
 
 -- the fragments of so many words
-abbrev pub leaves_at : ℕ → List ℕ → List Fragment
-leaves_at zero words = []
-leaves_at (suc n) words = fragment_of (little_number 4 words) ∷ leaves_at n (drop 4 words)
+abbrev pub leaves_of_numbers : ℕ → List ℕ → List Fragment
+leaves_of_numbers zero words = []
+leaves_of_numbers (suc n) words = word_fragment (little_number 4 words) ∷ leaves_of_numbers n (drop 4 words)
 
 -- whether this is a fragment
 abbrev pub is_fragment : Fragment → Bool
@@ -114,8 +114,8 @@ do_tile low high [] = low == high
 do_tile low high (f ∷ fs) = is_fragment f && ((f.value == low) && do_tile (low + span f.bits) high fs)
 
 -- whether the bytes spell the tree of these leaves
-abbrev pub is_tree : List ℕ → List Fragment → Bool
-is_tree bytes leaves =
+abbrev pub spells_tree : List ℕ → List Fragment → Bool
+spells_tree bytes leaves =
     (do_tile 0 (2 ^ 24) leaves && nat_le (length leaves) 4096)
     && (nat_le 2 (length leaves) && bytes_eq bytes (tree_bytes leaves))
 
@@ -123,13 +123,13 @@ is_tree bytes leaves =
 unfoldable pub all_leaves_at : List ℕ → Option (List Fragment)
 all_leaves_at bytes = do
   words ← words_at bytes
-  Some (leaves_at (length words / 4) words)
+  Some (leaves_of_numbers (length words / 4) words)
 
 -- the leaves of the tree that the bytes are
-unfoldable pub tree_of : List ℕ → Option (List Fragment)
-tree_of bytes = do
+unfoldable pub tree_of_bytes : List ℕ → Option (List Fragment)
+tree_of_bytes bytes = do
   leaves ← all_leaves_at bytes
-  if is_tree bytes leaves then Some leaves else None
+  if spells_tree bytes leaves then Some leaves else None
 
 -- ---- keys
 
@@ -143,5 +143,5 @@ abbrev pub front_of : List ℕ → List ℕ
 front_of key = take (length key - 5) key
 
 -- the name whose key this is
-unfoldable pub name_of : List ℕ → Option (List ℕ)
-name_of key = if is_name (front_of key) && bytes_eq key (entry_key (front_of key)) then Some (front_of key) else None
+unfoldable pub name_of_key : List ℕ → Option (List ℕ)
+name_of_key key = if is_name (front_of key) && bytes_eq key (entry_key (front_of key)) then Some (front_of key) else None

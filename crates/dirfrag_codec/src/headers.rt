@@ -2,7 +2,7 @@
 ghost use Rattle.std.specs.Prelude.{◌≡◌, ◌≤◌, IfOk};
 ghost use Rattle.dirfrag_codec.specs.FragHeader.{SpellsHeader};
 ghost use Rattle.dirfrag_codec.specs.Grammar.{Decodes};
-ghost use Rattle.dirfrag_codec.specs.Reading.{Gives, header_at};
+ghost use Rattle.dirfrag_codec.specs.Reading.{Gives, header_read_at};
 ghost use Rattle.dirfrag_codec.specs.Values.{header_of};
 
 use crate::fields::{after_tag, put_u64, u64_at};
@@ -51,7 +51,7 @@ pub fn decode_header(bytes: &[u8]) -> Option<FragHeader>
 // The fields of a header, and nothing after them.
 #[tactic(auto, unfolding(crate::specs::Reading::header_at))]
 fn header_of(bytes: &[u8]) -> Option<FragHeader>
-    ensures { Gives (λ header. header) result (header_at bytes.now) }
+    ensures { Gives (λ header. header) result (header_read_at bytes.now) }
 {
     let rest = after_tag(bytes, LETTER, VERSION)?;
     let (version, rest) = u64_at(rest)?;

@@ -2,9 +2,9 @@
 ghost use Rattle.dirfrag_codec.specs.EntryRecord.{HasItsSpellings, SpellsEntry, WritesEntry};
 ghost use Rattle.dirfrag_codec.specs.FragHeader.{SpellsHeader};
 ghost use Rattle.dirfrag_codec.specs.FragmentObject.{HasOneFragment, HasOneTree, ShowsAtEach, SpellsKey, SpellsWhatItShows};
-ghost use Rattle.dirfrag_codec.specs.Grammar.{HasOneMeaning, HasOneSpelling, IsReadAgain, NothingFollows, Reads};
+ghost use Rattle.dirfrag_codec.specs.Grammar.{HasOneMeaning, HasOneSpelling, IsReadAgain, NothingFollows, IsReaderOf};
 ghost use Rattle.dirfrag_codec.specs.TreeObject.{SpellsTree};
-ghost use Rattle.dirfrag_codec.specs.Values.{entry_of, header_of, name_of, tree_of, written_of};
+ghost use Rattle.dirfrag_codec.specs.Values.{inode_of_record, header_of, name_of_key, tree_of_bytes, written_of};
 
 /// Bytes are the record of one inode alone, an inode's record is written in one way and read as that inode, and no
 /// record begins another. `entry_of` is the inode whose record bytes are, and `written_of` that whose written record
@@ -14,8 +14,8 @@ pub fn entries_are_spelled_once()
     ensures spelling { HasOneSpelling WritesEntry }
     ensures again { IsReadAgain WritesEntry SpellsEntry }
     ensures ended { NothingFollows SpellsEntry }
-    ensures value { Reads SpellsEntry entry_of }
-    ensures written { Reads WritesEntry written_of }
+    ensures value { IsReaderOf SpellsEntry inode_of_record }
+    ensures written { IsReaderOf WritesEntry written_of }
     ensures versions { HasItsSpellings }
 {}
 
@@ -25,7 +25,7 @@ pub fn headers_are_spelled_once()
     ensures meaning { HasOneMeaning SpellsHeader }
     ensures spelling { HasOneSpelling SpellsHeader }
     ensures ended { NothingFollows SpellsHeader }
-    ensures value { Reads SpellsHeader header_of }
+    ensures value { IsReaderOf SpellsHeader header_of }
 {}
 
 /// Bytes are one tree alone, a tree has one spelling, and no tree begins another. `tree_of` is the tree that bytes are.
@@ -33,14 +33,14 @@ pub fn trees_are_spelled_once()
     ensures meaning { HasOneMeaning SpellsTree }
     ensures spelling { HasOneSpelling SpellsTree }
     ensures ended { NothingFollows SpellsTree }
-    ensures value { Reads SpellsTree tree_of }
+    ensures value { IsReaderOf SpellsTree tree_of_bytes }
 {}
 
 /// A key is that of one name alone, and a name has one key. `name_of` is the name whose key bytes are.
 pub fn keys_are_spelled_once()
     ensures meaning { HasOneMeaning SpellsKey }
     ensures spelling { HasOneSpelling SpellsKey }
-    ensures value { Reads SpellsKey name_of }
+    ensures value { IsReaderOf SpellsKey name_of_key }
 {}
 
 /// An object spells at most one fragment, at one commit version, and at most one fragment tree. The names that it

@@ -1,10 +1,10 @@
 //! The record of a directory entry.
 ghost use Rattle.std.specs.Prelude.{◌≡◌, ◌<◌, ◌≤◌, ◌^◌, ◌∷◌, [], IfOk, OnErr, length};
 ghost use Rattle.mds_types.specs.Name.{IsTarget};
-ghost use Rattle.dirfrag_codec.specs.EntryRecord.{HasWidths, IsRecordable, SpellsEntry, SpellsLink, WritesEntry, WritesLink, kind_byte, pin_byte, target_of, widths_front};
+ghost use Rattle.dirfrag_codec.specs.EntryRecord.{HasWidths, IsRecordable, SpellsEntry, SpellsLink, WritesEntry, WritesLink, kind_byte, pin_byte, target_bytes, widths_front};
 ghost use Rattle.dirfrag_codec.specs.Grammar.{Decodes};
 ghost use Rattle.dirfrag_codec.specs.Reading.{Gives, IsFieldsOfLink, IsInodeOf, IsKindOf, IsPinOf, RecordFields, fields_at, fields_at_v1, fields_at_v2, fits_kind, numbers_at};
-ghost use Rattle.dirfrag_codec.specs.Values.{entry_of, written_of};
+ghost use Rattle.dirfrag_codec.specs.Values.{inode_of_record, written_of};
 
 use crate::fields::{put_u16, put_u32, put_u64, u8_at, u16_at, u32_at, u64_at, version_at};
 use crate::recordable::{RANKS, is_rank_number};
@@ -55,7 +55,7 @@ pub fn encode_entry(alloc: Global, inode: &Inode) -> Result<Vec<u8>, AllocError>
 /// there is an error for links' records alone.
 pub fn decode_entry(alloc: Global, bytes: &[u8]) -> Result<Option<Inode>, AllocError>
     ensures spelled { IfOk result (Decodes SpellsEntry bytes.now) }
-    ensures value { IfOk result (λ answer. answer ≡ entry_of bytes.now) }
+    ensures value { IfOk result (λ answer. answer ≡ inode_of_record bytes.now) }
     ensures memory { OnErr result (SpellsLink bytes.now) }
 {
     match fields_of(bytes) {
@@ -355,7 +355,7 @@ fn kind_byte(kind: &Kind) -> u8
 
 // What a link points to; nothing for the other kinds.
 fn target_of(kind: &Kind) -> &[u8]
-    ensures target { result.now ≡ target_of kind.now }
+    ensures target { result.now ≡ target_bytes kind.now }
     ensures short { length result.now ≤ 4095 }
 {
     match kind {

@@ -5,7 +5,7 @@ ghost use Rattle.dirfrag_codec.specs.Grammar.{Decodes};
 ghost use Rattle.dirfrag_codec.specs.Leaves.{AreLeavesOf, AreTilesFrom, AreTreeOf, BeginsWithNone, EndsAt, IsFragmentOf};
 ghost use Rattle.dirfrag_codec.specs.Reading.{Gives, words_at};
 ghost use Rattle.dirfrag_codec.specs.TreeObject.{SpellsTree, StatesLeaves};
-ghost use Rattle.dirfrag_codec.specs.Values.{tree_of};
+ghost use Rattle.dirfrag_codec.specs.Values.{tree_of_bytes};
 
 use crate::fields::{after_tag, put_u16, put_u32, u16_at, u32_at};
 use fragtree::FragTree;
@@ -41,9 +41,9 @@ pub fn encode_tree(alloc: Global, tree: &FragTree) -> Result<Vec<u8>, AllocError
 /// only once they are known to be a tree's, so there is an error for trees alone.
 pub fn decode_tree(alloc: Global, bytes: &[u8]) -> Result<Option<FragTree>, AllocError>
     ensures spelled { IfOk result (Decodes SpellsTree bytes.now) }
-    ensures value { IfOk result (λ answer. answer ≡ tree_of bytes.now) }
+    ensures value { IfOk result (λ answer. answer ≡ tree_of_bytes bytes.now) }
     ensures memory { OnErr result (StatesLeaves bytes.now) }
-    ensures tree { OnErr result (IsSome (tree_of bytes.now)) }
+    ensures tree { OnErr result (IsSome (tree_of_bytes bytes.now)) }
 {
     let Some(words) = words_of(bytes) else {
         return Ok(None);

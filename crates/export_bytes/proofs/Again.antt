@@ -1,5 +1,5 @@
 -- What is written of an export is read again.
-use Rattle.export_bytes.proofs.Common.{Base, Bool, Export, Fragment, Fresh, Front, Head, Inode, List, None, Option, SentFrag, SentName, Some, Stored, WritesEntry, [], and_parts, ap, append-nil, append_assoc, arith, base_bytes, base_of, byte_at, cond, drop_at, entry_bytes, eqb, export_bytes, false, flat_map, frag_bytes, frag_of, fragment_again, fragment_decides, has_record, inode_at, inode_bytes, is_base_of, is_frag_before, is_fragment, is_name, is_name_before, is_sendable, is_sent_frag, is_sent_name, is_written, items_at, le-ltb, length, length-append, list_all, little_bytes, ltb, ltb-true, name_bytes, not, number_again, number_at, one_written, part_at, present_at, read_as, reads_written, refl, rise, sym, take_at, true, word_low, word_of, written_decides, written_of, written_short, ℕ, ◌&&◌, ◌++◌, ◌<◌, ◌>>=◌, ◌^◌, ◌∙◌, ◌∷◌, ◌≡◌}
+use Rattle.export_bytes.proofs.Common.{Base, Bool, Export, Fragment, Fresh, Front, Head, Inode, List, None, Option, SentFrag, SentName, Some, Stored, WritesEntry, [], and_parts, ap, append-nil, append_assoc, arith, base_bytes, base_of, byte_at, cond, drop_at, entry_bytes, eqb, export_bytes, false, flat_map, frag_bytes, frag_of_word, fragment_again, fragment_decides, has_record, sent_inode_at, inode_bytes, is_base_of, is_frag_before, is_fragment, is_name, is_name_before, is_sendable, is_sent_frag, is_sent_name, is_written, items_at, le-ltb, length, length-append, list_all, little_bytes, ltb, ltb-true, name_bytes, not, number_again, number_at, one_written, part_at, present_at, read_as, reads_written, refl, rise, sym, take_at, true, word_low, word_of, written_decides, written_of, written_short, ℕ, ◌&&◌, ◌++◌, ◌<◌, ◌>>=◌, ◌^◌, ◌∙◌, ◌∷◌, ◌≡◌}
 use Rattle.export_bytes.specs.Reading.{front_at, head_at, name_at, parts_at, record_at, sent_frag_at, sent_name_at}
 use Rattle.export_bytes.proofs.Items.{items_again}
 
@@ -30,7 +30,7 @@ record_again : (inode : Inode) (rest : List ℕ) → is_written (entry_bytes ino
 record_again inode rest has =
     record_chain (entry_bytes inode) rest inode (record_short inode has) (read_as WritesEntry written_of one_written reads_written (entry_bytes inode) inode ((written_decides (entry_bytes inode) inode).0 has))
 
-inode_again : (o : Option Inode) (rest : List ℕ) → has_record o ≡ true → inode_at (inode_bytes o ++ rest) ≡ Some (o, rest)
+inode_again : (o : Option Inode) (rest : List ℕ) → has_record o ≡ true → sent_inode_at (inode_bytes o ++ rest) ≡ Some (o, rest)
 inode_again None rest has = refl
 inode_again (Some inode) rest has =
     ap present_at (append_assoc (little_bytes 2 (length (entry_bytes inode))) (entry_bytes inode) rest)
@@ -38,11 +38,11 @@ inode_again (Some inode) rest has =
 
 -- ---- names
 
-name_chain : (name tail rest : List ℕ) (o : Option Inode) → is_name name ≡ true → inode_at (tail ++ rest) ≡ Some (o, rest) → sent_name_at (length name ∷ ((name ++ tail) ++ rest)) ≡ Some ((name, o), rest)
+name_chain : (name tail rest : List ℕ) (o : Option Inode) → is_name name ≡ true → sent_inode_at (tail ++ rest) ≡ Some (o, rest) → sent_name_at (length name ∷ ((name ++ tail) ++ rest)) ≡ Some ((name, o), rest)
 unfolding sent_name_at
 name_chain name tail rest o named read =
-    ap (λ (t : List ℕ). name_at (length name ∷ t) >>= λ n. inode_at n.1 >>= λ i. Some ((n.0, i.0), i.1)) (append_assoc name tail rest)
-    ∙ ap (λ (r : Option (List ℕ × List ℕ)). r >>= λ n. inode_at n.1 >>= λ i. Some ((n.0, i.0), i.1)) (name_again name (tail ++ rest) named)
+    ap (λ (t : List ℕ). name_at (length name ∷ t) >>= λ n. sent_inode_at n.1 >>= λ i. Some ((n.0, i.0), i.1)) (append_assoc name tail rest)
+    ∙ ap (λ (r : Option (List ℕ × List ℕ)). r >>= λ n. sent_inode_at n.1 >>= λ i. Some ((n.0, i.0), i.1)) (name_again name (tail ++ rest) named)
     ∙ ap (λ (r : Option (Option Inode × List ℕ)). r >>= λ i. Some ((name, i.0), i.1)) read
 
 pub sent_name_again : (s : SentName) (rest : List ℕ) → is_sent_name s ≡ true → sent_name_at (name_bytes s ++ rest) ≡ Some (s, rest)
@@ -52,7 +52,7 @@ sent_name_again s rest sent =
 
 -- ---- fragments
 
-frag_again : (f : Fragment) → is_fragment f ≡ true → frag_of (word_of f) ≡ Some f
+frag_again : (f : Fragment) → is_fragment f ≡ true → frag_of_word (word_of f) ≡ Some f
 frag_again f is =
     let same = fragment_again f ((fragment_decides f).0 is) in
     ap (λ (g : Fragment). cond (is_fragment g) (Some g) None) same ∙ ap (λ (b : Bool). cond b (Some f) None) is
@@ -76,7 +76,7 @@ base_again (Stored version) count rest is =
     let low : version < 2 ^ 64 = ltb-true version (2 ^ 64) x.0 in
     record { byte = 1; version = version; low = omega arith; byte_read = refl; made = ap (λ (b : Bool). cond b (Some (Stored version)) None) w.0 }
 
-head_chain : (h : Head) (word b v : ℕ) (t0 t1 t2 t3 t4 t5 : List ℕ) → number_at 8 t0 ≡ Some (h.ino, t1) → number_at 4 t1 ≡ Some (word, t2) → frag_of word ≡ Some h.frag → byte_at t2 ≡ Some (b, t3)
+head_chain : (h : Head) (word b v : ℕ) (t0 t1 t2 t3 t4 t5 : List ℕ) → number_at 8 t0 ≡ Some (h.ino, t1) → number_at 4 t1 ≡ Some (word, t2) → frag_of_word word ≡ Some h.frag → byte_at t2 ≡ Some (b, t3)
     → number_at 8 t3 ≡ Some (v, t4) → base_of b v ≡ Some h.base → number_at 4 t4 ≡ Some (h.count, t5) → is_base_of h.base h.count ≡ true → head_at t0 ≡ Some (h, t5)
 unfolding head_at
 head_chain h word b v t0 t1 t2 t3 t4 t5 e0 e1 e2 e3 e4 e5 e6 e7 = rw (e0, e1, e2, e3, e4, e5, e6, e7) refl
@@ -133,7 +133,7 @@ sent_frag_again f rest is =
 
 -- ---- the whole
 
-front_chain : (f : Front) (word : ℕ) (t0 t1 t2 t3 t4 t5 : List ℕ) → number_at 8 t0 ≡ Some (f.ino, t1) → number_at 4 t1 ≡ Some (word, t2) → frag_of word ≡ Some f.frag → byte_at t2 ≡ Some (f.exporter, t3)
+front_chain : (f : Front) (word : ℕ) (t0 t1 t2 t3 t4 t5 : List ℕ) → number_at 8 t0 ≡ Some (f.ino, t1) → number_at 4 t1 ≡ Some (word, t2) → frag_of_word word ≡ Some f.frag → byte_at t2 ≡ Some (f.exporter, t3)
     → byte_at t3 ≡ Some (f.importer, t4) → number_at 4 t4 ≡ Some (f.count, t5) → (ltb f.exporter 16 && (ltb f.importer 16 && not (eqb f.exporter f.importer))) ≡ true → front_at (88 ∷ 2 ∷ t0) ≡ Some (f, t5)
 unfolding front_at
 front_chain f word t0 t1 t2 t3 t4 t5 e0 e1 e2 e3 e4 e5 e6 = rw (e0, e1, e2, e3, e4, e5, e6) refl

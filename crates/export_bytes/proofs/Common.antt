@@ -7,12 +7,12 @@ pub use Rattle.dirfrag_codec.proofs.RecordLaws.{on_err, one_written, written_sho
 pub use Rattle.dirfrag_codec.proofs.TreeLaws.{word_low}
 pub use Rattle.dirfrag_codec.proofs.ValueLaws.{fragment_again, fragment_decides, guarded, one_reading, read_as, reading_answered, reads_written, spelled_as, written_decides}
 pub use Rattle.dirfrag_codec.specs.EntryRecord.{HasWidths, IsRecordable, WritesEntry, WritesLink, entry_bytes}
-pub use Rattle.dirfrag_codec.specs.Grammar.{Decodes, HasOneMeaning, NothingFollows, Reads}
+pub use Rattle.dirfrag_codec.specs.Grammar.{Decodes, HasOneMeaning, NothingFollows, IsReaderOf}
 pub use Rattle.dirfrag_codec.specs.Reading.{after_tag, byte_at, number_at, ◌>>=◌}
-pub use Rattle.dirfrag_codec.specs.Values.{fragment_of, is_fragment, is_name, is_written, written_of}
-pub use Rattle.export_bytes.specs.Checking.{after_rising, follows, named_as, place_of, seen_by, sent_as, text_of}
+pub use Rattle.dirfrag_codec.specs.Values.{word_fragment, is_fragment, is_name, is_written, written_of}
+pub use Rattle.export_bytes.specs.Checking.{after_rising, follows, named_as, place_of, seen_by, sent_as, sent_name_text}
 pub use Rattle.export_bytes.specs.Export.{SentName, SpellsExport, base_bytes, export_bytes, frag_bytes, has_record, inode_bytes, is_base_of, is_frag_before, is_name_before, is_sendable, is_sent_frag, is_sent_name, name_bytes, rise}
-pub use Rattle.export_bytes.specs.Reading.{Front, Head, StatesHead, base_of, export_of, frag_of, front_at, inode_at, is_export, items_at, part_at, parts_at, present_at, sent_frag_at, sent_name_at}
+pub use Rattle.export_bytes.specs.Reading.{Front, Head, StatesHead, base_of, export_of, frag_of_word, front_at, sent_inode_at, is_export, items_at, part_at, parts_at, present_at, sent_frag_at, sent_name_at}
 pub use Rattle.export_bytes.specs.declared.exports.Export.{Export}
 pub use Rattle.export_bytes.specs.declared.exports.SentFrag.{SentFrag}
 pub use Rattle.mds_types.specs.Frag.{Fragment, word_of}

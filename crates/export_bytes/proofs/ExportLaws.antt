@@ -1,5 +1,5 @@
 -- The laws of the format.
-use Rattle.export_bytes.proofs.Common.{Decides, Decides-and, Decides-like, Decodes, Export, Front, HasOneMeaning, IsBytes, List, None, NothingFollows, Option, Reads, SentFrag, Some, SpellsExport, [], ap, append-nil, bytes_eq-Decides, export_bytes, flat_map, frag_bytes, front_at, guarded, is_export, is_sendable, items_at, length, none-some, parts_at, same_Some, sent_frag_at, sym, ℕ, ◌++◌, ◌∙◌, ◌≡◌}
+use Rattle.export_bytes.proofs.Common.{Decides, Decides-and, Decides-like, Decodes, Export, Front, HasOneMeaning, IsBytes, List, None, NothingFollows, Option, IsReaderOf, SentFrag, Some, SpellsExport, [], ap, append-nil, bytes_eq-Decides, export_bytes, flat_map, frag_bytes, front_at, guarded, is_export, is_sendable, items_at, length, none-some, parts_at, same_Some, sent_frag_at, sym, ℕ, ◌++◌, ◌∙◌, ◌≡◌}
 use Rattle.export_bytes.specs.Reading.{export_of}
 use Rattle.export_bytes.proofs.Again.{frags_again, front_again, front_of, parts_again}
 use Rattle.export_bytes.proofs.Taken.{parts_taken}
@@ -12,7 +12,7 @@ export_decides bytes e =
 pub export_first : (bytes : List ℕ) (e : Export) → SpellsExport bytes e → parts_at bytes ≡ Some e
 export_first bytes e s = ap parts_at s.spelled ∙ parts_again e s.sendable
 
-pub reads_export : Reads SpellsExport export_of
+pub reads_export : IsReaderOf SpellsExport export_of
 unfolding export_of
 reads_export bytes = guarded SpellsExport bytes (parts_at bytes) (is_export bytes) (export_decides bytes) (export_first bytes)
 

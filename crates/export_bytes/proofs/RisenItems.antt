@@ -1,5 +1,5 @@
 -- Items that rise, read one after another and not kept.
-use Rattle.export_bytes.proofs.Common.{Bool, Fragment, List, None, Option, Some, [], after_rising, ap, arith, cond, false, follows, is_frag_before, is_name_before, items_at, named_as, none-some, option_map, place_of, refl, rise, same_Some, seen_by, sent_as, sent_frag_at, sent_name_at, suc, sym, text_of, true, ℕ, ◌&&◌, ◌-◌, ◌<◌, ◌>>=◌, ◌∙◌, ◌∷◌, ◌≡◌}
+use Rattle.export_bytes.proofs.Common.{Bool, Fragment, List, None, Option, Some, [], after_rising, ap, arith, cond, false, follows, is_frag_before, is_name_before, items_at, named_as, none-some, option_map, place_of, refl, rise, same_Some, seen_by, sent_as, sent_frag_at, sent_name_at, suc, sym, sent_name_text, true, ℕ, ◌&&◌, ◌-◌, ◌<◌, ◌>>=◌, ◌∙◌, ◌∷◌, ◌≡◌}
 
 module _ {A : Type 0} (is_before : A → A → Bool) (item_at : List ℕ → Option (A × List ℕ)) where
   -- what follows, once the items are there
@@ -62,11 +62,11 @@ module _ {A P : Type 0} (is_before : A → A → Bool) (item_at : List ℕ → O
       ∙ ap (λ (q : P). after_rising is_before item_at (Some (made q)) (left - 1) after) w.2
 
 -- names that rise, and fragments
-pub name_rises : (last : Option (List ℕ)) (left : ℕ) (bytes after name : List ℕ) (total : Option (List ℕ)) → 0 < left → seen_by text_of (sent_name_at bytes) ≡ Some (name, after)
+pub name_rises : (last : Option (List ℕ)) (left : ℕ) (bytes after name : List ℕ) (total : Option (List ℕ)) → 0 < left → seen_by sent_name_text (sent_name_at bytes) ≡ Some (name, after)
     → follows is_name_before (option_map named_as last) (named_as name) ≡ true → after_rising is_name_before sent_name_at (option_map named_as last) left bytes ≡ total
     → after_rising is_name_before sent_name_at (Some (named_as name)) (left - 1) after ≡ total
 name_rises last left bytes after name total some is above so_far =
-    sym (step_rises is_name_before sent_name_at text_of named_as (λ x z. refl) (λ l x. refl) (option_map named_as last) left bytes after name some is above) ∙ so_far
+    sym (step_rises is_name_before sent_name_at sent_name_text named_as (λ x z. refl) (λ l x. refl) (option_map named_as last) left bytes after name some is above) ∙ so_far
 
 pub frag_rises : (last : Option (ℕ × Fragment)) (left : ℕ) (bytes after : List ℕ) (place : ℕ × Fragment) (total : Option (List ℕ)) → 0 < left → seen_by place_of (sent_frag_at bytes) ≡ Some (place, after)
     → follows is_frag_before (option_map sent_as last) (sent_as place) ≡ true → after_rising is_frag_before sent_frag_at (option_map sent_as last) left bytes ≡ total

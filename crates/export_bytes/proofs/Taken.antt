@@ -1,5 +1,5 @@
 -- What is read of an export is what stands there.
-use Rattle.export_bytes.proofs.Common.{Base, Bool, Export, Fragment, Fresh, Front, Head, Inode, IsBytes, IsBytes-drop, List, None, Option, SentFrag, SentName, Some, SpellsExport, StatesHead, Stored, Takes, Takes-then, WritesEntry, [], after_tag, and_from, and_parts, ap, append-nil, append_assoc, arith, base_bytes, base_of, bind_some, byte_at, byte_takes, cond, cond_some, drop, entry_bytes, eqb, eqb-true, false, flat_map, frag_bytes, frag_of, fragment_of, guard_not, has_record, inode_at, inode_bytes, is_base_of, is_frag_before, is_fragment, is_name, is_name_before, is_sendable, is_sent_frag, is_sent_name, is_written, items_at, length, length-take, list_all, little_bytes, lt-ltb, ltb, ltb-false, name_bytes, nil_from_length, not, number_at, number_takes, part_at, present_at, reads_written, refl, rise, same_Some, spelled_as, subst, suc, sym, tag_takes, take, take-append-drop, true, width_2, width_4, width_8, word_of, written_decides, written_of, ℕ, ◌&&◌, ◌++◌, ◌<◌, ◌>>=◌, ◌^◌, ◌∙◌, ◌∷◌, ◌≡◌, ◌≤◌}
+use Rattle.export_bytes.proofs.Common.{Base, Bool, Export, Fragment, Fresh, Front, Head, Inode, IsBytes, IsBytes-drop, List, None, Option, SentFrag, SentName, Some, SpellsExport, StatesHead, Stored, Takes, Takes-then, WritesEntry, [], after_tag, and_from, and_parts, ap, append-nil, append_assoc, arith, base_bytes, base_of, bind_some, byte_at, byte_takes, cond, cond_some, drop, entry_bytes, eqb, eqb-true, false, flat_map, frag_bytes, frag_of_word, word_fragment, guard_not, has_record, sent_inode_at, inode_bytes, is_base_of, is_frag_before, is_fragment, is_name, is_name_before, is_sendable, is_sent_frag, is_sent_name, is_written, items_at, length, length-take, list_all, little_bytes, lt-ltb, ltb, ltb-false, name_bytes, nil_from_length, not, number_at, number_takes, part_at, present_at, reads_written, refl, rise, same_Some, spelled_as, subst, suc, sym, tag_takes, take, take-append-drop, true, width_2, width_4, width_8, word_of, written_decides, written_of, ℕ, ◌&&◌, ◌++◌, ◌<◌, ◌>>=◌, ◌^◌, ◌∙◌, ◌∷◌, ◌≡◌, ◌≤◌}
 use Rattle.export_bytes.specs.Reading.{front_at, head_at, name_at, parts_at, record_at, sent_frag_at, sent_name_at}
 use Rattle.export_bytes.proofs.Items.{items_take}
 
@@ -39,7 +39,7 @@ record_takes bytes inode rest fits read =
     subst P (same_Some (d.0, a.0.1) (inode, rest) d.2)
     ((written_decides (entry_bytes d.0) d.0).1 (record { allowed = s.allowed; widths = s.widths; spelled = refl }), spelled)
 
-inode_takes : (bytes : List ℕ) (o : Option Inode) (rest : List ℕ) → IsBytes bytes → inode_at bytes ≡ Some (o, rest) → (has_record o ≡ true) × Takes bytes (inode_bytes o) rest
+inode_takes : (bytes : List ℕ) (o : Option Inode) (rest : List ℕ) → IsBytes bytes → sent_inode_at bytes ≡ Some (o, rest) → (has_record o ≡ true) × Takes bytes (inode_bytes o) rest
 inode_takes [] o rest fits read = absurd cc
 inode_takes (byte ∷ more) o rest fits read = go (eqb byte 0) (eqb byte 1) refl refl read
   where
@@ -59,8 +59,8 @@ inode_takes (byte ∷ more) o rest fits read = go (eqb byte 0) (eqb byte 1) refl
 pub sent_name_takes : (bytes : List ℕ) (s : SentName) (rest : List ℕ) → IsBytes bytes → sent_name_at bytes ≡ Some (s, rest) → (is_sent_name s ≡ true) × Takes bytes (name_bytes s) rest
 unfolding sent_name_at
 sent_name_takes bytes s rest fits read =
-    let a = bind_some (name_at bytes) (λ n. inode_at n.1 >>= λ i. Some ((n.0, i.0), i.1)) (s, rest) read in
-    let b = bind_some (inode_at a.0.1) (λ i. Some ((a.0.0, i.0), i.1)) (s, rest) a.2 in
+    let a = bind_some (name_at bytes) (λ n. sent_inode_at n.1 >>= λ i. Some ((n.0, i.0), i.1)) (s, rest) read in
+    let b = bind_some (sent_inode_at a.0.1) (λ i. Some ((a.0.0, i.0), i.1)) (s, rest) a.2 in
     let n = name_takes bytes a.0.0 a.0.1 fits a.1 in
     let i = inode_takes a.0.1 b.0.0 b.0.1 n.1.rest_fits b.1 in
     let whole : Takes bytes (length a.0.0 ∷ (a.0.0 ++ inode_bytes b.0.0)) b.0.1 = Takes-then bytes (length a.0.0 ∷ a.0.0) a.0.1 (inode_bytes b.0.0) b.0.1 n.1 i.1 in
@@ -69,10 +69,10 @@ sent_name_takes bytes s rest fits read =
 
 -- ---- fragments
 
-frag_takes : (word : ℕ) (f : Fragment) → frag_of word ≡ Some f → (is_fragment f ≡ true) × (word_of f ≡ word)
+frag_takes : (word : ℕ) (f : Fragment) → frag_of_word word ≡ Some f → (is_fragment f ≡ true) × (word_of f ≡ word)
 frag_takes word f e =
-    let g = cond_some (is_fragment (fragment_of word)) (fragment_of word) f e in
-    let same : word_of (fragment_of word) ≡ word = omega arith in
+    let g = cond_some (is_fragment (word_fragment word)) (word_fragment word) f e in
+    let same : word_of (word_fragment word) ≡ word = omega arith in
     let P : Fragment → Type 0 = λ h. (is_fragment h ≡ true) × (word_of h ≡ word) in
     subst P g.1 (g.0, same)
 
@@ -115,7 +115,7 @@ abbrev head_2 : ℕ → List ℕ → Fragment → Option (Head × List ℕ)
 head_2 ino rest frag = byte_at rest >>= head_3 ino frag
 
 abbrev head_1 : ℕ → ℕ × List ℕ → Option (Head × List ℕ)
-head_1 ino word = frag_of word.0 >>= head_2 ino word.1
+head_1 ino word = frag_of_word word.0 >>= head_2 ino word.1
 
 abbrev head_0 : ℕ × List ℕ → Option (Head × List ℕ)
 head_0 ino = number_at 4 ino.1 >>= head_1 ino.0
@@ -136,7 +136,7 @@ unfolding head_at
 head_takes bytes h rest fits read =
     let a = bind_some (number_at 8 bytes) head_0 (h, rest) read in
     let b = bind_some (number_at 4 a.0.1) (head_1 a.0.0) (h, rest) a.2 in
-    let f = bind_some (frag_of b.0.0) (head_2 a.0.0 b.0.1) (h, rest) b.2 in
+    let f = bind_some (frag_of_word b.0.0) (head_2 a.0.0 b.0.1) (h, rest) b.2 in
     let c = bind_some (byte_at b.0.1) (head_3 a.0.0 f.0) (h, rest) f.2 in
     let d = bind_some (number_at 8 c.0.1) (head_4 a.0.0 f.0 c.0.0) (h, rest) c.2 in
     let e = bind_some (base_of c.0.0 d.0.0) (head_5 a.0.0 f.0 d.0.1) (h, rest) d.2 in
@@ -231,7 +231,7 @@ abbrev front_3 : ℕ → List ℕ → Fragment → Option (Front × List ℕ)
 front_3 ino rest frag = byte_at rest >>= front_4 ino frag
 
 abbrev front_2 : ℕ → ℕ × List ℕ → Option (Front × List ℕ)
-front_2 ino word = frag_of word.0 >>= front_3 ino word.1
+front_2 ino word = frag_of_word word.0 >>= front_3 ino word.1
 
 abbrev front_1 : ℕ × List ℕ → Option (Front × List ℕ)
 front_1 ino = number_at 4 ino.1 >>= front_2 ino.0
@@ -256,7 +256,7 @@ front_takes bytes f rest fits read =
     let t = bind_some (after_tag 88 2 bytes) front_0 (f, rest) read in
     let a = bind_some (number_at 8 t.0) front_1 (f, rest) t.2 in
     let b = bind_some (number_at 4 a.0.1) (front_2 a.0.0) (f, rest) a.2 in
-    let w = bind_some (frag_of b.0.0) (front_3 a.0.0 b.0.1) (f, rest) b.2 in
+    let w = bind_some (frag_of_word b.0.0) (front_3 a.0.0 b.0.1) (f, rest) b.2 in
     let c = bind_some (byte_at b.0.1) (front_4 a.0.0 w.0) (f, rest) w.2 in
     let d = bind_some (byte_at c.0.1) (front_5 a.0.0 w.0 c.0.0) (f, rest) c.2 in
     let n = bind_some (number_at 4 d.0.1) (front_6 a.0.0 w.0 c.0.0 d.0.0) (f, rest) d.2 in

@@ -24,8 +24,8 @@ seen_by part None = None
 seen_by part (Some (x, rest)) = Some (part x, rest)
 
 -- the parts that orders ask for: the bytes of a name, the directory and the leaf of a fragment
-abbrev pub text_of : SentName → List ℕ
-text_of sent = sent.0
+abbrev pub sent_name_text : SentName → List ℕ
+sent_name_text sent = sent.0
 
 abbrev pub place_of : SentFrag → ℕ × Fragment
 place_of sent = (sent.ino.0, sent.frag)

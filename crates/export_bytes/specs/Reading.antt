@@ -5,7 +5,7 @@ use Rattle.std.specs.Str.{bytes_eq}
 use Rattle.mds_types.specs.Frag.{Fragment}
 use Rattle.mds_types.specs.declared.inodes.Inode.{Inode}
 use Rattle.dirfrag_codec.specs.Reading.{◌>>=◌, after_tag, byte_at, number_at}
-use Rattle.dirfrag_codec.specs.Values.{written_of, fragment_of, is_fragment, is_name}
+use Rattle.dirfrag_codec.specs.Values.{written_of, word_fragment, is_fragment, is_name}
 use Rattle.cached_frag.specs.declared.bases.Base.{Base}
 use Rattle.cached_frag.specs.declared.bases.Base.TheVariants.{Fresh, Stored}
 use Rattle.export_bytes.specs.declared.exports.Export.{Export}
@@ -24,8 +24,8 @@ abbrev pub long_part_at : List ℕ → Option (List ℕ × List ℕ)
 long_part_at bytes = number_at 2 bytes >>= λ len. part_at len.0 len.1
 
 -- the fragment of a word
-abbrev pub frag_of : ℕ → Option Fragment
-frag_of word = if is_fragment (fragment_of word) then Some (fragment_of word) else None
+abbrev pub frag_of_word : ℕ → Option Fragment
+frag_of_word word = if is_fragment (word_fragment word) then Some (word_fragment word) else None
 
 -- the base of a byte and a commit version
 abbrev pub base_of : ℕ → ℕ → Option Base
@@ -44,7 +44,7 @@ unfoldable pub head_at : List ℕ → Option (Head × List ℕ)
 head_at bytes = do
   ino ← number_at 8 bytes
   word ← number_at 4 ino.1
-  frag ← frag_of word.0
+  frag ← frag_of_word word.0
   byte ← byte_at word.1
   version ← number_at 8 byte.1
   base ← base_of byte.0 version.0
@@ -77,14 +77,14 @@ record_at bytes = do
 abbrev pub present_at : List ℕ → Option (Option Inode × List ℕ)
 present_at bytes = record_at bytes >>= λ inode. Some (Some inode.0, inode.1)
 
-abbrev pub inode_at : List ℕ → Option (Option Inode × List ℕ)
-inode_at [] = None
-inode_at (byte ∷ rest) = if byte == 0 then Some (None, rest) else if byte == 1 then present_at rest else None
+abbrev pub sent_inode_at : List ℕ → Option (Option Inode × List ℕ)
+sent_inode_at [] = None
+sent_inode_at (byte ∷ rest) = if byte == 0 then Some (None, rest) else if byte == 1 then present_at rest else None
 
 unfoldable pub sent_name_at : List ℕ → Option (SentName × List ℕ)
 sent_name_at bytes = do
   name ← name_at bytes
-  inode ← inode_at name.1
+  inode ← sent_inode_at name.1
   Some ((name.0, inode.0), inode.1)
 
 -- so many items, one after another
@@ -122,7 +122,7 @@ front_at bytes = do
   tagged ← after_tag 88 2 bytes
   ino ← number_at 8 tagged
   word ← number_at 4 ino.1
-  frag ← frag_of word.0
+  frag ← frag_of_word word.0
   exporter ← byte_at word.1
   importer ← byte_at exporter.1
   count ← number_at 4 importer.1

@@ -4,8 +4,8 @@ ghost use Rattle.std.specs.Option.{option_copied};
 ghost use Rattle.dirfrag_codec.specs.Reading.{Gives};
 ghost use Rattle.dirfrag_codec.specs.Values.{written_of, is_name};
 ghost use Rattle.export_bytes.specs.Export.{is_frag_before, is_name_before};
-ghost use Rattle.export_bytes.specs.Checking.{after_rising, follows, named_as, place_of, seen_by, sent_as, text_of};
-ghost use Rattle.export_bytes.specs.Reading.{inode_at, parts_at, record_at, sent_frag_at, sent_name_at};
+ghost use Rattle.export_bytes.specs.Checking.{after_rising, follows, named_as, place_of, seen_by, sent_as, sent_name_text};
+ghost use Rattle.export_bytes.specs.Reading.{sent_inode_at, parts_at, record_at, sent_frag_at, sent_name_at};
 
 use crate::reading::{front_at, head_at, long_part_at, short_part_at};
 use crate::writing::{PRESENT, REMOVED};
@@ -106,7 +106,7 @@ fn follows_name(last: Option<&[u8]>, name: &[u8]) -> bool
 // The bytes of a name, and the bytes after what became of it.
 #[tactic(auto, unfolding(crate::specs::Reading::sent_name_at, crate::specs::Reading::name_at))]
 fn text_at(alloc: Global, bytes: &[u8]) -> Option<(&[u8], &[u8])>
-    ensures { Gives (λ x. (x.0.now, x.1.now)) result (seen_by text_of (sent_name_at bytes.now)) }
+    ensures { Gives (λ x. (x.0.now, x.1.now)) result (seen_by sent_name_text (sent_name_at bytes.now)) }
 {
     let Some((name, rest)) = short_part_at(bytes) else {
         return None;
@@ -132,7 +132,7 @@ fn is_name(alloc: Global, bytes: &[u8]) -> bool
 
 // What follows that which became of a name.
 fn after_inode(alloc: Global, bytes: &[u8]) -> Option<&[u8]>
-    ensures { Gives (λ rest. rest.now) result (option_map (λ x. x.1) (inode_at bytes.now)) }
+    ensures { Gives (λ rest. rest.now) result (option_map (λ x. x.1) (sent_inode_at bytes.now)) }
 {
     match bytes {
         [REMOVED, rest @ ..] => Some(rest),

@@ -1,5 +1,5 @@
 //! The law of the format. A law is its contract: its body does nothing.
-ghost use Rattle.dirfrag_codec.specs.Grammar.{HasOneMeaning, HasOneSpelling, NothingFollows, Reads};
+ghost use Rattle.dirfrag_codec.specs.Grammar.{HasOneMeaning, HasOneSpelling, NothingFollows, IsReaderOf};
 ghost use Rattle.export_bytes.specs.Export.{SpellsExport};
 ghost use Rattle.export_bytes.specs.Reading.{export_of};
 
@@ -9,5 +9,5 @@ pub fn exports_are_spelled_once()
     ensures meaning { HasOneMeaning SpellsExport }
     ensures spelling { HasOneSpelling SpellsExport }
     ensures ended { NothingFollows SpellsExport }
-    ensures value { Reads SpellsExport export_of }
+    ensures value { IsReaderOf SpellsExport export_of }
 {}

@@ -3,7 +3,7 @@ ghost use Rattle.std.specs.Prelude.{◌≡◌, IfOk, IsSome, None, OnErr};
 ghost use Rattle.dirfrag_codec.specs.Grammar.{Decodes};
 ghost use Rattle.dirfrag_codec.specs.Reading.{Gives};
 ghost use Rattle.export_bytes.specs.Export.{SpellsExport};
-ghost use Rattle.export_bytes.specs.Reading.{Front, Head, StatesFragment, StatesHead, base_of, export_of, frag_of, front_at, head_at, inode_at, items_at, long_part_at, name_at, part_at, parts_at, present_at, record_at, sent_frag_at, sent_name_at, short_part_at};
+ghost use Rattle.export_bytes.specs.Reading.{Front, Head, StatesFragment, StatesHead, base_of, export_of, frag_of_word, front_at, head_at, sent_inode_at, items_at, long_part_at, name_at, part_at, parts_at, present_at, record_at, sent_frag_at, sent_name_at, short_part_at};
 
 use crate::checking::are_parts;
 use crate::exports::{Export, SentFrag, SentFrags, SentNames};
@@ -199,7 +199,7 @@ fn base_of(byte: u8, version: u64) -> Option<Base>
 
 // The fragment of a word: the number of bits above the 24 bits of the value.
 fn frag_of(word: u32) -> Option<Frag>
-    ensures { result ≡ frag_of word }
+    ensures { result ≡ frag_of_word word }
 {
     Frag::new(word % (1 << Frag::MAX_BITS), (word >> Frag::MAX_BITS) as u8)
 }
@@ -284,7 +284,7 @@ fn part_at(bytes: &[u8], len: usize) -> Option<(&[u8], &[u8])>
 
 // What became of a name, and the bytes after it.
 fn inode_at(alloc: Global, bytes: &[u8]) -> Result<Option<(Option<Inode>, &[u8])>, AllocError>
-    ensures { IfOk result (λ answer. Gives (λ x. (x.0, x.1.now)) answer (inode_at bytes.now)) }
+    ensures { IfOk result (λ answer. Gives (λ x. (x.0, x.1.now)) answer (sent_inode_at bytes.now)) }
 {
     match bytes {
         [REMOVED, rest @ ..] => Ok(Some((None, rest))),

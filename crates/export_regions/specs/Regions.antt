@@ -19,8 +19,8 @@ use Rattle.inode_table.specs.Dirs.{Covers, Homes}
 use Rattle.subtree_map.specs.Authority.{NearestRoot, Roots}
 
 -- a leaf is in the region of a root
-abbrev pub IsIn : Roots → Homes → Covers → Leaf → Leaf → Type 0
-IsIn roots homes covers root leaf = NearestRoot roots homes covers leaf root
+abbrev pub IsOfRegion : Roots → Homes → Covers → Leaf → Leaf → Type 0
+IsOfRegion roots homes covers root leaf = NearestRoot roots homes covers leaf root
 
 -- ---- what a rank caches of a region
 
@@ -96,5 +96,5 @@ abbrev pub HasOneExport : Type 0
 HasOneExport =
     (roots : Roots) (homes : Homes) (covers : Covers) (unclean : UncleanLeaves) (root : Dirfrag) (to : Rank)
     (a b : Export)
-    → IsExportOf (IsIn roots homes covers (leaf_of root)) unclean root to a
-    → IsExportOf (IsIn roots homes covers (leaf_of root)) unclean root to b → a ≡ b
+    → IsExportOf (IsOfRegion roots homes covers (leaf_of root)) unclean root to a
+    → IsExportOf (IsOfRegion roots homes covers (leaf_of root)) unclean root to b → a ≡ b

@@ -1,7 +1,7 @@
 //! Whether a region can be sent: each fragment's dirty names are counted in 32 bits.
 ghost use Rattle.std.specs.Prelude.{◌≡◌, ◌↔◌, ◌<◌, length, IsTrue, option_copied};
 ghost use Rattle.mds_types.specs.Leaf.{leaf_of};
-ghost use Rattle.export_regions.specs.Regions.{HasTooMany, IsIn};
+ghost use Rattle.export_regions.specs.Regions.{HasTooMany, IsOfRegion};
 ghost use Rattle.export_regions.specs.Sending.{AreAtTheirRank};
 ghost use Rattle.export_regions.specs.Counts.{AnyTooMany, is_too_long};
 ghost use Rattle.dentry_cache.specs.CacheMap.{AreCaches, unclean};
@@ -19,8 +19,8 @@ use subtree_map::Subtrees;
 pub fn has_too_many(caches: &Caches, subtrees: &Subtrees, dirs: &Dirs, root: Dirfrag) -> bool
     requires there { root.rank.0 < length caches.now.used }
     requires held { AreAtTheirRank
-        (IsIn subtrees.now.roots dirs.now.homes dirs.now.trees (leaf_of root)) caches.now root.rank.0 }
-    ensures { IsTrue result ↔ HasTooMany (IsIn subtrees.now.roots dirs.now.homes dirs.now.trees (leaf_of root))
+        (IsOfRegion subtrees.now.roots dirs.now.homes dirs.now.trees (leaf_of root)) caches.now root.rank.0 }
+    ensures { IsTrue result ↔ HasTooMany (IsOfRegion subtrees.now.roots dirs.now.homes dirs.now.trees (leaf_of root))
         (unclean caches.now) }
 {
     any_too_many(caches, subtrees, dirs, &root)
@@ -29,7 +29,7 @@ pub fn has_too_many(caches: &Caches, subtrees: &Subtrees, dirs: &Dirs, root: Dir
 // Whether a place of the root's rank has such a fragment.
 fn any_too_many(caches: &Caches, subtrees: &Subtrees, dirs: &Dirs, root: &Dirfrag) -> bool
     requires { root.now.rank.0 < length caches.now.used }
-    ensures any { IsTrue result ↔ AnyTooMany (IsIn subtrees.now.roots dirs.now.homes dirs.now.trees (leaf_of root.now))
+    ensures any { IsTrue result ↔ AnyTooMany (IsOfRegion subtrees.now.roots dirs.now.homes dirs.now.trees (leaf_of root.now))
         (places_at caches.now root.now.rank.0) }
     ensures valid { AreCaches caches.now }
 {

@@ -3,7 +3,7 @@ ghost use Rattle.std.specs.Prelude.{◌≡◌, ◌↔◌, ◌<◌, ◌≤◌, le
 ghost use Rattle.mds_types.specs.Leaf.{leaf_of};
 ghost use Rattle.subtree_map.specs.Authority.{NearestRoot};
 ghost use Rattle.dentry_cache.specs.CacheMap.{AreCaches, order};
-ghost use Rattle.export_regions.specs.Regions.{AreCachedOf, IsIn};
+ghost use Rattle.export_regions.specs.Regions.{AreCachedOf, IsOfRegion};
 
 use crate::leaves::RegionLeaves;
 use dentry_cache::Caches;
@@ -23,7 +23,7 @@ pub fn leaves_of(
 ) -> Result<RegionLeaves, AllocError>
     requires { root.rank.0 < length caches.now.used }
     ensures leaves { IfOk result
-        (AreCachedOf (IsIn subtrees.now.roots dirs.now.homes dirs.now.trees (leaf_of root)) caches.now root.rank.0) }
+        (AreCachedOf (IsOfRegion subtrees.now.roots dirs.now.homes dirs.now.trees (leaf_of root)) caches.now root.rank.0) }
     ensures few { length (order caches.now root.rank.0) ≤ 65536 }
     ensures valid { AreCaches caches.now }
 {
@@ -48,7 +48,7 @@ pub(crate) fn is_in_region(
     root: &Dirfrag,
     leaf: &(Ino, Frag),
 ) -> bool
-    ensures { IsTrue result ↔ IsIn subtrees.now.roots dirs.now.homes dirs.now.trees (leaf_of root.now) leaf.now }
+    ensures { IsTrue result ↔ IsOfRegion subtrees.now.roots dirs.now.homes dirs.now.trees (leaf_of root.now) leaf.now }
 {
     match subtrees.find_root(dirs, leaf.0, leaf.1) {
         Some(found) => is_one(&found, root),

@@ -3,7 +3,7 @@ ghost use Rattle.std.specs.Prelude.{◌≡◌, ◌<◌, ◌≤◌, true, length,
 ghost use Rattle.mds_types.specs.Leaf.{leaf_of};
 ghost use Rattle.dentry_cache.specs.CacheMap.{unclean};
 ghost use Rattle.export_bytes.specs.Export.{is_sendable};
-ghost use Rattle.export_regions.specs.Regions.{HasTooMany, IsExportOf, IsIn};
+ghost use Rattle.export_regions.specs.Regions.{HasTooMany, IsExportOf, IsOfRegion};
 ghost use Rattle.export_regions.specs.Sending.{AreAtTheirRank, AreBetween, AreLive, HaveVersions, IsExportFrom, MayNotSend, MaySendAll};
 
 use crate::counts::has_too_many;
@@ -33,17 +33,17 @@ pub fn export_of(
     requires there { root.rank.0 < length caches.now.used }
     requires between { AreBetween root.rank importer }
     requires held { AreAtTheirRank
-        (IsIn subtrees.now.roots dirs.now.homes dirs.now.trees (leaf_of root)) caches.now root.rank.0 }
+        (IsOfRegion subtrees.now.roots dirs.now.homes dirs.now.trees (leaf_of root)) caches.now root.rank.0 }
     requires live { AreLive dirs.now.homes dirs.now.trees (unclean caches.now) }
     requires versions { HaveVersions (unclean caches.now) }
     ensures sent { IfOk result
-        (IsExportOf (IsIn subtrees.now.roots dirs.now.homes dirs.now.trees (leaf_of root))
+        (IsExportOf (IsOfRegion subtrees.now.roots dirs.now.homes dirs.now.trees (leaf_of root))
         (unclean caches.now) root importer) }
     ensures sendable { IfOk result (λ export. is_sendable export ≡ true) }
     ensures counted { OnOk result
-        (HasTooMany (IsIn subtrees.now.roots dirs.now.homes dirs.now.trees (leaf_of root)) (unclean caches.now) → ⊥) }
+        (HasTooMany (IsOfRegion subtrees.now.roots dirs.now.homes dirs.now.trees (leaf_of root)) (unclean caches.now) → ⊥) }
     ensures refused { IfErr result
-        (MayNotSend (IsIn subtrees.now.roots dirs.now.homes dirs.now.trees (leaf_of root)) (unclean caches.now)) }
+        (MayNotSend (IsOfRegion subtrees.now.roots dirs.now.homes dirs.now.trees (leaf_of root)) (unclean caches.now)) }
 {
     if has_too_many(caches, subtrees, dirs, root) {
         return Err(Refusal::TooManyFrags);

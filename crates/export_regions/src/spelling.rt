@@ -2,7 +2,7 @@
 ghost use Rattle.std.specs.Prelude.{◌<◌, IfOk, MatchOption, length};
 ghost use Rattle.mds_types.specs.Leaf.{leaf_of};
 ghost use Rattle.dentry_cache.specs.CacheMap.{unclean};
-ghost use Rattle.export_regions.specs.Regions.{HasTooMany, IsIn};
+ghost use Rattle.export_regions.specs.Regions.{HasTooMany, IsOfRegion};
 ghost use Rattle.export_regions.specs.Sending.{AreAtTheirRank, AreBetween, AreLive, HaveVersions};
 ghost use Rattle.export_regions.specs.Spelling.{IsSpelled};
 
@@ -38,13 +38,13 @@ pub fn spell_region(
     requires there { root.now.rank.0 < length caches.now.used }
     requires between { AreBetween root.now.rank importer }
     requires held { AreAtTheirRank
-        (IsIn subtrees.now.roots dirs.now.homes dirs.now.trees (leaf_of root.now)) caches.now root.now.rank.0 }
+        (IsOfRegion subtrees.now.roots dirs.now.homes dirs.now.trees (leaf_of root.now)) caches.now root.now.rank.0 }
     requires live { AreLive dirs.now.homes dirs.now.trees (unclean caches.now) }
     requires versions { HaveVersions (unclean caches.now) }
     ensures { IfOk result
-        (λ found. MatchOption found (HasTooMany (IsIn subtrees.now.roots dirs.now.homes dirs.now.trees
+        (λ found. MatchOption found (HasTooMany (IsOfRegion subtrees.now.roots dirs.now.homes dirs.now.trees
         (leaf_of root.now)) (unclean caches.now))
-        (IsSpelled (IsIn subtrees.now.roots dirs.now.homes dirs.now.trees (leaf_of root.now)) caches.now root.now
+        (IsSpelled (IsOfRegion subtrees.now.roots dirs.now.homes dirs.now.trees (leaf_of root.now)) caches.now root.now
         importer)) }
 {
     if has_too_many(caches, subtrees, dirs, *root) {

@@ -1,5 +1,5 @@
 -- The roots of each exporter: what a step keeps of them, and which is the next.
-use Rattle.export_steps.proofs.Common.{AreExports, Bool, Equal, ExportState, Greater, IsAntisymmetric, IsBehind, IsBetweenRanks, IsFirstKey, IsNextOf, IsNextRoot, IsSome, IsTotalOrder, Leaf, Less, List, MatchOrdering, None, Option, Ordering, Rank, RootsBy, Some, Standing, StandingExport, T, [], ap, arith, below_all, by_cmp, come_to, comes, cond, entries_sorted, eq_by_cmp, eqb-true, exact_pairs, false, false_from_ne_true, find, find-where_key, first_of, get-empty, get-entries, get-insert, get-remove, get_beside, get_left, get_put, get_removed, inl, inr, is_eq, is_le, is_lt, is_of, is_same, is_some, is_sorted, is_sorted-where_key, leaf-exact, leaf-total, leaf_cmp, left_of, nat_cmp, nat_cmp-IsAntisymmetric, nat_cmp_total, on_total, ordering_then, ranks, refl, right_of, root_fragment, same_or_apart, subst, sym, then_total, tie, tied_itself, true, where_key, ℕ, ◌<◌, ◌==◌, ◌∙◌, ◌∷◌, ◌≡◌, ◌≢◌, ◌⊎◌}
+use Rattle.export_steps.proofs.Common.{AreExports, Bool, Equal, ExportState, Greater, IsAntisymmetric, IsRootBehind, IsBetweenRanks, IsFirstKey, IsNextOf, IsNextRoot, IsSome, IsTotalOrder, Leaf, Less, List, MatchOrdering, None, Option, Ordering, Rank, RootsBy, Some, Standing, StandingExport, T, [], ap, arith, below_all, by_cmp, come_to, comes, cond, entries_sorted, eq_by_cmp, eqb-true, exact_pairs, false, false_from_ne_true, find, find-where_key, first_root_of, get-empty, get-entries, get-insert, get-remove, get_beside, get_left, get_put, get_removed, inl, inr, is_eq, is_le, is_lt, is_export_of, is_same, is_some, is_sorted, is_sorted-where_key, leaf-exact, leaf-total, leaf_cmp, left_of, nat_cmp, nat_cmp-IsAntisymmetric, nat_cmp_total, on_total, ordering_then, ranks, refl, right_of, root_fragment, same_or_apart, subst, sym, then_total, tie, tied_itself, true, where_key, ℕ, ◌<◌, ◌==◌, ◌∙◌, ◌∷◌, ◌≡◌, ◌≢◌, ◌⊎◌}
 use Rattle.std.specs.FinMap as map
 use Rattle.sorted_map.proofs.PlaceLaws.{less as less_of}
 use Rattle.export_steps.proofs.Between.{come_between, empty_between, put_between, removed_between}
@@ -32,7 +32,7 @@ empty_exports standing by is none = record {
   between = empty_between standing is;
   told = λ rank root.
       ap (λ (m : RootsBy). is_some (map.get m (rank, root))) none ∙ ap (λ (o : Option (Unit {0})). is_some o) (get-empty by_cmp (rank, root))
-      ∙ sym (ap (λ (m : Standing). is_of rank (map.get m root)) is ∙ ap (is_of rank) (get-empty leaf_cmp root));
+      ∙ sym (ap (λ (m : Standing). is_export_of rank (map.get m root)) is ∙ ap (is_export_of rank) (get-empty leaf_cmp root));
 }
 
 module _ (old new : Standing) (root : Leaf) (by : RootsBy) (kept : AreExports old by) where
@@ -43,15 +43,15 @@ module _ (old new : Standing) (root : Leaf) (by : RootsBy) (kept : AreExports ol
     told = λ rank leaf. at rank leaf (same_or_apart leaf root);
   }
     where
-      at : (rank : ℕ) (leaf : Leaf) → (leaf ≡ root) ⊎ (leaf ≡ root → ⊥) → is_some (map.get then (rank, leaf)) ≡ is_of rank (map.get new leaf)
+      at : (rank : ℕ) (leaf : Leaf) → (leaf ≡ root) ⊎ (leaf ≡ root → ⊥) → is_some (map.get then (rank, leaf)) ≡ is_export_of rank (map.get new leaf)
       at rank leaf (inl same) =
           ap (λ (m : RootsBy). is_some (map.get m (rank, leaf))) put
           ∙ ap (λ (o : Option (Unit {0})). is_some o) (get-insert by-total by (export.exporter.0, root) tt (rank, leaf))
           ∙ here (same_or_other (rank, leaf) (export.exporter.0, root))
-          ∙ sym (ap (λ (m : Standing). is_of rank (map.get m leaf)) changed ∙ ap (λ (l : Leaf). is_of rank (map.get (map.insert old root export) l)) same ∙ ap (is_of rank) (get_put old root export))
+          ∙ sym (ap (λ (m : Standing). is_export_of rank (map.get m leaf)) changed ∙ ap (λ (l : Leaf). is_export_of rank (map.get (map.insert old root export) l)) same ∙ ap (is_export_of rank) (get_put old root export))
         where
           none_by : is_some (map.get by (rank, leaf)) ≡ false
-          none_by = kept.told rank leaf ∙ ap (λ (l : Leaf). is_of rank (map.get old l)) same ∙ ap (is_of rank) none
+          none_by = kept.told rank leaf ∙ ap (λ (l : Leaf). is_export_of rank (map.get old l)) same ∙ ap (is_export_of rank) none
 
           here : (◌≡◌ {A = ℕ × Leaf} (rank, leaf) (export.exporter.0, root)) ⊎ (◌≡◌ {A = ℕ × Leaf} (rank, leaf) (export.exporter.0, root) → ⊥) → is_some (cond (eq_by_cmp by_cmp (rank, leaf) (export.exporter.0, root)) (Some tt) (map.get by (rank, leaf))) ≡ (rank == export.exporter.0)
           here (inl one) =
@@ -66,7 +66,7 @@ module _ (old new : Standing) (root : Leaf) (by : RootsBy) (kept : AreExports ol
           ∙ ap (λ (o : Option (Unit {0})). is_some o) (get-insert by-total by (export.exporter.0, root) tt (rank, leaf))
           ∙ ap (λ b. is_some (cond b (Some tt) (map.get by (rank, leaf)))) (apart_key (rank, leaf) (export.exporter.0, root) (λ one. apart (ap (λ (k : ℕ × Leaf). k.1) one)))
           ∙ kept.told rank leaf
-          ∙ sym (ap (λ (m : Standing). is_of rank (map.get m leaf)) changed ∙ ap (is_of rank) (get_beside old root export leaf apart))
+          ∙ sym (ap (λ (m : Standing). is_export_of rank (map.get m leaf)) changed ∙ ap (is_export_of rank) (get_beside old root export leaf apart))
 
   -- it has come to another state
   pub come_exports : (export : StandingExport) (state : ExportState) → map.get old root ≡ Some export → new ≡ map.insert old root (come_to state export) → AreExports new by
@@ -75,12 +75,12 @@ module _ (old new : Standing) (root : Leaf) (by : RootsBy) (kept : AreExports ol
     told = λ rank leaf. at rank leaf (same_or_apart leaf root);
   }
     where
-      at : (rank : ℕ) (leaf : Leaf) → (leaf ≡ root) ⊎ (leaf ≡ root → ⊥) → is_some (map.get by (rank, leaf)) ≡ is_of rank (map.get new leaf)
+      at : (rank : ℕ) (leaf : Leaf) → (leaf ≡ root) ⊎ (leaf ≡ root → ⊥) → is_some (map.get by (rank, leaf)) ≡ is_export_of rank (map.get new leaf)
       at rank leaf (inl same) =
-          kept.told rank leaf ∙ ap (λ (l : Leaf). is_of rank (map.get old l)) same ∙ ap (is_of rank) stood
-          ∙ sym (ap (λ (m : Standing). is_of rank (map.get m leaf)) changed ∙ ap (λ (l : Leaf). is_of rank (map.get (map.insert old root (come_to state export)) l)) same ∙ ap (is_of rank) (get_put old root (come_to state export)))
+          kept.told rank leaf ∙ ap (λ (l : Leaf). is_export_of rank (map.get old l)) same ∙ ap (is_export_of rank) stood
+          ∙ sym (ap (λ (m : Standing). is_export_of rank (map.get m leaf)) changed ∙ ap (λ (l : Leaf). is_export_of rank (map.get (map.insert old root (come_to state export)) l)) same ∙ ap (is_export_of rank) (get_put old root (come_to state export)))
       at rank leaf (inr apart) =
-          kept.told rank leaf ∙ sym (ap (λ (m : Standing). is_of rank (map.get m leaf)) changed ∙ ap (is_of rank) (get_beside old root (come_to state export) leaf apart))
+          kept.told rank leaf ∙ sym (ap (λ (m : Standing). is_export_of rank (map.get m leaf)) changed ∙ ap (is_export_of rank) (get_beside old root (come_to state export) leaf apart))
 
   -- it ends
   pub end_exports : (export : StandingExport) (then : RootsBy) → map.get old root ≡ Some export → new ≡ map.remove old root → then ≡ map.remove by (export.exporter.0, root) → AreExports new then
@@ -89,15 +89,15 @@ module _ (old new : Standing) (root : Leaf) (by : RootsBy) (kept : AreExports ol
     told = λ rank leaf. at rank leaf (same_or_apart leaf root);
   }
     where
-      at : (rank : ℕ) (leaf : Leaf) → (leaf ≡ root) ⊎ (leaf ≡ root → ⊥) → is_some (map.get then (rank, leaf)) ≡ is_of rank (map.get new leaf)
+      at : (rank : ℕ) (leaf : Leaf) → (leaf ≡ root) ⊎ (leaf ≡ root → ⊥) → is_some (map.get then (rank, leaf)) ≡ is_export_of rank (map.get new leaf)
       at rank leaf (inl same) =
           ap (λ (m : RootsBy). is_some (map.get m (rank, leaf))) gone
           ∙ ap (λ (o : Option (Unit {0})). is_some o) (get-remove by-total by (export.exporter.0, root) (rank, leaf))
           ∙ here (same_or_other (rank, leaf) (export.exporter.0, root))
-          ∙ sym (ap (λ (m : Standing). is_of rank (map.get m leaf)) changed ∙ ap (λ (l : Leaf). is_of rank (map.get (map.remove old root) l)) same ∙ ap (is_of rank) (get_removed old root))
+          ∙ sym (ap (λ (m : Standing). is_export_of rank (map.get m leaf)) changed ∙ ap (λ (l : Leaf). is_export_of rank (map.get (map.remove old root) l)) same ∙ ap (is_export_of rank) (get_removed old root))
         where
           was : is_some (map.get by (rank, leaf)) ≡ (rank == export.exporter.0)
-          was = kept.told rank leaf ∙ ap (λ (l : Leaf). is_of rank (map.get old l)) same ∙ ap (is_of rank) stood
+          was = kept.told rank leaf ∙ ap (λ (l : Leaf). is_export_of rank (map.get old l)) same ∙ ap (is_export_of rank) stood
 
           here : (◌≡◌ {A = ℕ × Leaf} (rank, leaf) (export.exporter.0, root)) ⊎ (◌≡◌ {A = ℕ × Leaf} (rank, leaf) (export.exporter.0, root) → ⊥) → is_some (cond (eq_by_cmp by_cmp (rank, leaf) (export.exporter.0, root)) None (map.get by (rank, leaf))) ≡ false
           here (inl one) = ap (λ b. is_some (cond b None (map.get by (rank, leaf)))) (same_key (rank, leaf) (export.exporter.0, root) one)
@@ -109,7 +109,7 @@ module _ (old new : Standing) (root : Leaf) (by : RootsBy) (kept : AreExports ol
           ∙ ap (λ (o : Option (Unit {0})). is_some o) (get-remove by-total by (export.exporter.0, root) (rank, leaf))
           ∙ ap (λ b. is_some (cond b None (map.get by (rank, leaf)))) (apart_key (rank, leaf) (export.exporter.0, root) (λ one. apart (ap (λ (k : ℕ × Leaf). k.1) one)))
           ∙ kept.told rank leaf
-          ∙ sym (ap (λ (m : Standing). is_of rank (map.get m leaf)) changed ∙ ap (is_of rank) (get_left old root leaf apart))
+          ∙ sym (ap (λ (m : Standing). is_export_of rank (map.get m leaf)) changed ∙ ap (is_export_of rank) (get_left old root leaf apart))
 
 -- ---- the first key
 
@@ -121,7 +121,7 @@ behind first (e ∷ es) key below some = go (eq_by_cmp by_cmp key e.0) refl some
     go true tied its more = ap (by_cmp first) (by-exact key e.0 (tie _ tied)) ∙ less_of _ (left_of _ _ below)
     go false apart its more = more its
 
-pub first_key : (by : RootsBy) (passes : ℕ × Leaf → Bool) (left : List ((ℕ × Leaf) × Unit {0})) → left ≡ where_key by_cmp passes (map.entries by) → IsFirstKey by passes (first_of left)
+pub first_key : (by : RootsBy) (passes : ℕ × Leaf → Bool) (left : List ((ℕ × Leaf) × Unit {0})) → left ≡ where_key by_cmp passes (map.entries by) → IsFirstKey by passes (first_root_of left)
 first_key by passes left is = go left sorted found
   where
     sorted : T (is_sorted by_cmp left)
@@ -140,7 +140,7 @@ first_key by passes left is = go left sorted found
     own e true on gets = (on, subst (λ (o : Option (Unit {0})). IsSome o) gets refl)
     own e false off gets = let clash : Some e.1 ≡ None = gets in absurd cc
 
-    go : (es : List ((ℕ × Leaf) × Unit {0})) → T (is_sorted by_cmp es) → ((key : ℕ × Leaf) → find by_cmp key es ≡ cond (passes key) (map.get by key) None) → IsFirstKey by passes (first_of es)
+    go : (es : List ((ℕ × Leaf) × Unit {0})) → T (is_sorted by_cmp es) → ((key : ℕ × Leaf) → find by_cmp key es ≡ cond (passes key) (map.get by key) None) → IsFirstKey by passes (first_root_of es)
     go [] ordered each = λ key on. there [] each key on
     go (e ∷ es) ordered each =
         let itself : find by_cmp e.0 (e ∷ es) ≡ Some e.1 = ap (λ r. cond (is_eq r) (Some e.1) (find by_cmp e.0 es)) (tied_itself by-total e.0) in
@@ -170,11 +170,11 @@ least_le root = go (nat_cmp 0 root.0.0) (nat_cmp 0 root.1.value) (nat_cmp 0 root
     go Greater s t a b c = absurd (omega (arith, a))
 
 -- just the rank's roots behind one come
-comes_to : (rank : ℕ) (after : Option Leaf) (root : Leaf) → IsBehind after root → comes rank after (rank, root) ≡ true
+comes_to : (rank : ℕ) (after : Option Leaf) (root : Leaf) → IsRootBehind after root → comes rank after (rank, root) ≡ true
 comes_to rank None root behind = ap is_le (same_rank rank (record { 0 = 0 }, root_fragment) root) ∙ least_le root
 comes_to rank (Some one) root behind = ap is_lt (same_rank rank one root ∙ behind)
 
-comes_from : (rank : ℕ) (after : Option Leaf) (root : Leaf) → comes rank after (rank, root) ≡ true → IsBehind after root
+comes_from : (rank : ℕ) (after : Option Leaf) (root : Leaf) → comes rank after (rank, root) ≡ true → IsRootBehind after root
 comes_from rank None root is = tt
 comes_from rank (Some one) root is = less_of (leaf_cmp one root) (subst (λ r. T (is_lt r)) (same_rank rank one root) (subst T (sym is) tt))
 
@@ -223,7 +223,7 @@ module _ (by : RootsBy) (rank : ℕ) (after : Option Leaf) where
 
 -- ---- the next export
 
-is_of_true : (rank : Rank) (o : Option StandingExport) → is_of rank.0 o ≡ true → (export : StandingExport) × (o ≡ Some export) × (export.exporter ≡ rank)
+is_of_true : (rank : Rank) (o : Option StandingExport) → is_export_of rank.0 o ≡ true → (export : StandingExport) × (o ≡ Some export) × (export.exporter ≡ rank)
 is_of_true rank None is = let clash : false ≡ true = is in absurd cc
 is_of_true rank (Some export) is = (export, refl, λ i. record { 0 = sym (eqb-true rank.0 export.exporter.0 is) i })
 
@@ -233,7 +233,7 @@ module _ (standing : Standing) (by : RootsBy) (kept : AreExports standing by) (r
 
   by_stands : (root : Leaf) (export : StandingExport) → map.get standing root ≡ Some export → export.exporter ≡ rank → IsSome (map.get by (rank.0, root))
   by_stands root export stands exporter =
-      kept.told rank.0 root ∙ ap (is_of rank.0) stands ∙ is_same rank.0 export.exporter.0 (sym (ap (λ (r : Rank). r.0) exporter))
+      kept.told rank.0 root ∙ ap (is_export_of rank.0) stands ∙ is_same rank.0 export.exporter.0 (sym (ap (λ (r : Rank). r.0) exporter))
 
   -- the next root has an export
   pub next_stands : (root : Leaf) → IsNextRoot by rank.0 after (Some root) → map.get standing root ≡ None → ⊥

@@ -1,9 +1,9 @@
 -- Names of other crates, and of this one's definitions, as the proofs of this crate take them.
-pub use Rattle.export_steps.specs.ByExporter.{AreExports, IsBehind, IsFirstKey, IsNextOf, IsNextRoot, RootsBy, by_cmp, comes, first_of, is_of}
+pub use Rattle.export_steps.specs.ByExporter.{AreExports, IsRootBehind, IsFirstKey, IsNextOf, IsNextRoot, RootsBy, by_cmp, comes, first_root_of, is_export_of}
 pub use Rattle.export_steps.specs.Handover.{CancelsSoundly, FinishesSoundly, FreezesSoundly, HandsOver, KeepFrozen, KeepHolders, StepsSoundly}
 pub use Rattle.export_steps.specs.Holder.{HasHolder, IsFrozen, held_by, holder_or, holding, is_imported, region_holder}
 pub use Rattle.export_steps.specs.Regions.{AreFrozenRegionsKept, IsMakingElsewhere, IsMergeElsewhere, IsMoveElsewhere, IsRemovalElsewhere, IsReplacedElsewhere, IsSplitElsewhere, StandsOver}
-pub use Rattle.export_steps.specs.Standing.{AreBetweenRanks, ArePlaced, Cancels, ComesTo, Finishes, Freezes, IsBetweenRanks, IsCancel, IsFinish, IsFreeze, IsPrep, IsStart, Preps, Standing, Starts, Steps, come_to, is_before_send, is_freezing, is_prepared}
+pub use Rattle.export_steps.specs.Standing.{AreBetweenRanks, ArePlaced, Cancels, ComesTo, Finishes, Freezes, IsBetweenRanks, IsCancel, IsFinish, IsFreeze, IsPrep, IsStart, Preps, Standing, Starts, StepsExport, come_to, is_before_send, is_freezing, is_prepared}
 pub use Rattle.export_steps.specs.declared.exports.ExportState.{ExportState}
 pub use Rattle.export_steps.specs.declared.exports.ExportState.TheVariants.{Frozen, Imported, Prepared, Sent, Started}
 pub use Rattle.export_steps.specs.declared.exports.StandingExport.{StandingExport}
@@ -41,5 +41,5 @@ pub use Rattle.subtree_map.proofs.Nearest.{is_itself, is_ranked, one_authority, 
 pub use Rattle.subtree_map.proofs.Options.{not_none, one_value, value_of}
 pub use Rattle.subtree_map.proofs.Split.{splits_soundly, stands_beside, stands_here}
 pub use Rattle.subtree_map.specs.Authority.{HasAuthority, HoldsDentry, IsInRegion, IsSubtrees, NearestRoot, Roots, inherited, itself}
-pub use Rattle.subtree_map.specs.Changes.{AreGone, BecomesMerged, BecomesSplit, HaveOneAuthority, IsRootMerge, IsRootSplit, KeepAuthority, Subtrees, is_inside, leaf_of}
-pub use Rattle.subtree_map.specs.Moves.{IsSettled}
+pub use Rattle.subtree_map.specs.Changes.{AreGone, BecomesMerged, BecomesSplit, HaveOneAuthority, IsRootMerge, IsRootSplit, KeepAuthority, Subtrees, is_inside, leaf_in_dir}
+pub use Rattle.subtree_map.specs.Moves.{KeepsRanksOf}

@@ -1,5 +1,5 @@
 -- What happens elsewhere keeps each frozen region.
-use Rattle.export_steps.proofs.Common.{AreFrozenRegionsKept, ArePlaced, Covers, Homes, IsFinish, IsFreeze, IsFrozen, IsInRegion, IsLive, IsMakingElsewhere, IsMergeElsewhere, IsMoveElsewhere, IsRemovalElsewhere, IsSome, IsSplitElsewhere, Leaf, NearestRoot, Ok, Roots, Some, Standing, StandingExport, StandsOver, Subtrees, ap, false, inl, inr, is_freezing, is_inside, is_some, leaf_of, one_value, subst, sym, true, ◌↔◌, ◌∙◌, ◌≡◌, ◌≢◌}
+use Rattle.export_steps.proofs.Common.{AreFrozenRegionsKept, ArePlaced, Covers, Homes, IsFinish, IsFreeze, IsFrozen, IsInRegion, IsLive, IsMakingElsewhere, IsMergeElsewhere, IsMoveElsewhere, IsRemovalElsewhere, IsSome, IsSplitElsewhere, Leaf, NearestRoot, Ok, Roots, Some, Standing, StandingExport, StandsOver, Subtrees, ap, false, inl, inr, is_freezing, is_inside, is_some, leaf_in_dir, one_value, subst, sym, true, ◌↔◌, ◌∙◌, ◌≡◌, ◌≢◌}
 use Rattle.std.specs.FinMap as map
 use Rattle.export_steps.proofs.Handover.{back, beside, cut, onto, uncut}
 use Rattle.export_steps.proofs.Placed.{finishes_placed, prepared_freezing}
@@ -34,7 +34,7 @@ after_split standing was now homes covers later over is = record {
       over.placed;
 }
   where
-    thawed : (root : Leaf) (export : StandingExport) → map.get standing root ≡ Some export → is_freezing export.state ≡ true → NearestRoot was.roots homes covers (leaf_of is.dir is.frag) root → ⊥
+    thawed : (root : Leaf) (export : StandingExport) → map.get standing root ≡ Some export → is_freezing export.state ≡ true → NearestRoot was.roots homes covers (leaf_in_dir is.dir is.frag) root → ⊥
     thawed root export stands freezing near = is.thawed (record { root = root; export = export; nearest = near; stands = stands; freezing = freezing })
 
 pub after_merge : (standing : Standing) (was now : Subtrees) (homes : Homes) (covers later : Covers) → StandsOver standing was homes covers → IsMergeElsewhere standing was now homes covers later → AreFrozenRegionsKept standing was now homes homes covers later

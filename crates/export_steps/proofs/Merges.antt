@@ -1,5 +1,5 @@
 -- Leaves of other regions are merged.
-use Rattle.export_steps.proofs.Common.{BecomesMerged, Bool, CanMerge, Covers, Fragment, HasAuthority, HasLeaf, HaveOneAuthority, Homes, IsInRegion, IsLive, IsMerge, IsRootMerge, IsSome, IsSubtrees, IsTable, IsTree, KeepAuthority, Leaf, List, NearestRoot, Rank, Roots, Some, ap, elsewhere_out, false, here_out, inl, inr, is_inside, is_known, is_some, is_within, itself, leaf_of, leaves_now, leaves_of, leaves_still, merged_is_new, merges_soundly, one_value, outside_of, refl, some_inside, stands_beside, stands_here, subst, sym, tree_of_row, true, value_of, ℕ, ◌↔◌, ◌∙◌, ◌≡◌, ◌≢◌, ◌⊎◌}
+use Rattle.export_steps.proofs.Common.{BecomesMerged, Bool, CanMerge, Covers, Fragment, HasAuthority, HasLeaf, HaveOneAuthority, Homes, IsInRegion, IsLive, IsMerge, IsRootMerge, IsSome, IsSubtrees, IsTable, IsTree, KeepAuthority, Leaf, List, NearestRoot, Rank, Roots, Some, ap, elsewhere_out, false, here_out, inl, inr, is_inside, is_known, is_some, is_within, itself, leaf_in_dir, leaves_now, leaves_of, leaves_still, merged_is_new, merges_soundly, one_value, outside_of, refl, some_inside, stands_beside, stands_here, subst, sym, tree_of_row, true, value_of, ℕ, ◌↔◌, ◌∙◌, ◌≡◌, ◌≢◌, ◌⊎◌}
 use Rattle.std.specs.FinMap as map
 use Rattle.sorted_map.proofs.NatKeys as nat
 use Rattle.export_steps.proofs.Coloured.{colour, coloured, came, goes_on, nearest_of, of_other, paint_none, paint_same, paint_some, painted_some, valid_to}
@@ -17,7 +17,7 @@ module _ (root : Leaf) (old new : Roots) (d : ℕ) (f : Fragment) (is : IsRootMe
   not_inside : (leaf : Leaf) → is_inside d f leaf ≡ true → leaf ≢ root
   not_inside leaf inside same = outside root (subst (λ k. is_inside d f k ≡ true) same inside) root_stands own
 
-  not_merged : leaf_of d f ≢ root
+  not_merged : leaf_in_dir d f ≢ root
   not_merged same = merged_is_new (leaves_of covers d) f (tree_of_row homes covers table d) can (subst (λ (k : Leaf). HasLeaf (leaves_of covers k.0.0) k.1) (sym same) root_stands.stands)
 
   root_outside : is_inside d f root ≡ false
@@ -32,24 +32,24 @@ module _ (root : Leaf) (old new : Roots) (d : ℕ) (f : Fragment) (is : IsRootMe
   stays_placed = is.others root root_outside (λ same. not_merged (sym same))
 
   -- where a merged leaf gets its colour from
-  painted_from : (rank : Rank) → map.get (coloured root new) (leaf_of d f) ≡ Some rank → (leaf : Leaf) × ((leaf ≡ leaf_of d f) ⊎ (is_inside d f leaf ≡ true)) × (map.get (coloured root old) leaf ≡ Some rank)
+  painted_from : (rank : Rank) → map.get (coloured root new) (leaf_in_dir d f) ≡ Some rank → (leaf : Leaf) × ((leaf ≡ leaf_in_dir d f) ⊎ (is_inside d f leaf ≡ true)) × (map.get (coloured root old) leaf ≡ Some rank)
   painted_from rank gets =
-      let there = painted_some root new (leaf_of d f) (ap is_some gets) in
+      let there = painted_some root new (leaf_in_dir d f) (ap is_some gets) in
       let now = value_of _ there in
       let from = is.rank now.0 now.1 in
       let apart : from.0 ≢ root = elim from.1 [
         | inl same ↦ λ it. not_merged (sym same ∙ it)
         | inr inside ↦ not_inside from.0 inside
       ] in
-      let is_rank : colour root (leaf_of d f) ≡ rank = one_value _ (colour root (leaf_of d f)) rank (paint_some root new (leaf_of d f) there) gets in
-      let same : colour root from.0 ≡ rank = of_other root from.0 apart ∙ sym (of_other root (leaf_of d f) not_merged) ∙ is_rank in
+      let is_rank : colour root (leaf_in_dir d f) ≡ rank = one_value _ (colour root (leaf_in_dir d f)) rank (paint_some root new (leaf_in_dir d f) there) gets in
+      let same : colour root from.0 ≡ rank = of_other root from.0 apart ∙ sym (of_other root (leaf_in_dir d f) not_merged) ∙ is_rank in
       (from.0, from.1, paint_some root old from.0 (ap is_some from.2) ∙ ap (λ r. Some r) same)
 
   merge_coloured : IsRootMerge (coloured root old) (coloured root new) d f
   merge_coloured = record {
     gone = λ leaf inside. paint_none root new leaf (is.gone leaf inside);
     others = λ leaf out apart. paint_same root new old leaf (is.others leaf out apart);
-    some = λ leaf inside had. ap is_some (paint_some root new (leaf_of d f) (is.some leaf inside (painted_some root old leaf had)));
+    some = λ leaf inside had. ap is_some (paint_some root new (leaf_in_dir d f) (is.some leaf inside (painted_some root old leaf had)));
     rank = painted_from;
   }
 
@@ -93,9 +93,9 @@ module _ (root : Leaf) (old new : Roots) (d : ℕ) (f : Fragment) (is : IsRootMe
         )
         | inr merged ↦
             let inside = some_inside (leaves_of covers d) f can.some in (
-              leaf_of d inside.0,
+              leaf_in_dir d inside.0,
               record { known = subst (λ e. is_known homes e ≡ true) at stands.known; stands = inside.1 },
-              inr (is_within d f (leaf_of d inside.0) refl inside.2, λ i. (record { 0 = at i }, merged i)),
+              inr (is_within d f (leaf_in_dir d inside.0) refl inside.2, λ i. (record { 0 = at i }, merged i)),
             )
       ]
 

@@ -1,9 +1,9 @@
 -- A directory moves between leaves of other regions.
-use Rattle.export_steps.proofs.Common.{Covers, HoldsDentry, Home, Homes, IsInRegion, IsSettled, IsSome, Leaf, MayMove, NearestRoot, Roots, Some, ap, inherited, inl, inr, is_known, is_some, itself, known_by, one_value, refl, still_known, subst, sym, true, value_of, ℕ, ◌==◌, ◌||◌, ◌↔◌, ◌∙◌, ◌≡◌, ◌≢◌, ◌⊎◌}
+use Rattle.export_steps.proofs.Common.{Covers, HoldsDentry, Home, Homes, IsInRegion, KeepsRanksOf, IsSome, Leaf, MayMove, NearestRoot, Roots, Some, ap, inherited, inl, inr, is_known, is_some, itself, known_by, one_value, refl, still_known, subst, sym, true, value_of, ℕ, ◌==◌, ◌||◌, ◌↔◌, ◌∙◌, ◌≡◌, ◌≢◌, ◌⊎◌}
 use Rattle.std.specs.FinMap as map
 use Rattle.sorted_map.proofs.NatKeys as nat
 
-module _ (root : Leaf) (old new : Roots) (homes : Homes) (covers : Covers) (d : ℕ) (home : Home) (is : IsSettled old new homes covers d home) (may : MayMove homes d home) (is_root : IsSome (map.get old root))
+module _ (root : Leaf) (old new : Roots) (homes : Homes) (covers : Covers) (d : ℕ) (home : Home) (is : KeepsRanksOf old new homes covers d home) (may : MayMove homes d home) (is_root : IsSome (map.get old root))
     (from_outside : (place : Home) (holder : Leaf) → map.get homes d ≡ Some place → HoldsDentry covers place holder → NearestRoot old homes covers holder root → ⊥)
     (to_outside : (holder : Leaf) → HoldsDentry covers home holder → NearestRoot old homes covers holder root → ⊥) where
   goes_on : (leaf near : Leaf) → near ≡ root → NearestRoot old homes covers leaf near → NearestRoot new (map.insert homes d home) covers leaf near

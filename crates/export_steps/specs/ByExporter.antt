@@ -11,25 +11,25 @@ use Rattle.export_steps.specs.declared.exports.StandingExport.{StandingExport}
 use Rattle.export_steps.specs.Standing.{AreBetweenRanks, Standing}
 
 -- a root that comes later in the order of leaves
-abbrev pub IsBehind : Option Leaf → Leaf → Type 0
-IsBehind None root = Unit {0}
-IsBehind (Some one) root = leaf_cmp one root ≡ Less
+abbrev pub IsRootBehind : Option Leaf → Leaf → Type 0
+IsRootBehind None root = Unit {0}
+IsRootBehind (Some one) root = leaf_cmp one root ≡ Less
 
 -- the first export of a rank behind a root, in the order of roots
 pub record IsFirstOf (standing : Standing) (rank : Rank) (after : Option Leaf) (root : Leaf)
     (export : StandingExport) : Type 0 where
   pub stands : map.get standing root ≡ Some export
   pub exporter : export.exporter ≡ rank
-  pub behind : IsBehind after root
+  pub behind : IsRootBehind after root
   pub least : (other : Leaf) (another : StandingExport) → map.get standing other ≡ Some another
-      → another.exporter ≡ rank → IsBehind after other → (other ≡ root) ⊎ (leaf_cmp root other ≡ Less)
+      → another.exporter ≡ rank → IsRootBehind after other → (other ≡ root) ⊎ (leaf_cmp root other ≡ Less)
 
 -- that export, or there is none
 abbrev pub IsNextOf : Standing → Rank → Option Leaf → Option (Leaf × StandingExport) → Type 0
 IsNextOf standing rank after (Some found) = IsFirstOf standing rank after found.0 found.1
 IsNextOf standing rank after None =
     (root : Leaf) (export : StandingExport) → map.get standing root ≡ Some export → export.exporter ≡ rank
-    → IsBehind after root → ⊥
+    → IsRootBehind after root → ⊥
 
 -- ---- how they are kept. Only this crate's own contracts use these words
 
@@ -41,23 +41,23 @@ abbrev pub RootsBy : Type 0
 RootsBy = map.FinMap by_cmp (Unit {0})
 
 -- whether an export is that of a rank
-abbrev pub is_of : ℕ → Option StandingExport → Bool
-is_of rank None = false
-is_of rank (Some export) = rank == export.exporter.0
+abbrev pub is_export_of : ℕ → Option StandingExport → Bool
+is_export_of rank None = false
+is_export_of rank (Some export) = rank == export.exporter.0
 
 -- the exports go from one of 16 ranks to another, and these are their roots by exporter
 pub record AreExports (standing : Standing) (by : RootsBy) : Type 0 where
   pub between : AreBetweenRanks standing
-  pub told : (rank : ℕ) (root : Leaf) → is_some (map.get by (rank, root)) ≡ is_of rank (map.get standing root)
+  pub told : (rank : ℕ) (root : Leaf) → is_some (map.get by (rank, root)) ≡ is_export_of rank (map.get standing root)
 
 -- whether a rank's root comes behind another one, or at all
 abbrev pub comes : ℕ → Option Leaf → ℕ × Leaf → Bool
 comes rank None key = is_le (by_cmp (rank, (record { 0 = 0 }, root_fragment)) key)
 comes rank (Some root) key = is_lt (by_cmp (rank, root) key)
 
-abbrev pub first_of : List ((ℕ × Leaf) × Unit {0}) → Option (ℕ × Leaf)
-first_of [] = None
-first_of (pair ∷ pairs) = Some pair.0
+abbrev pub first_root_of : List ((ℕ × Leaf) × Unit {0}) → Option (ℕ × Leaf)
+first_root_of [] = None
+first_root_of (pair ∷ pairs) = Some pair.0
 
 -- the first key that passes a test
 abbrev pub IsFirstKey : RootsBy → (ℕ × Leaf → Bool) → Option (ℕ × Leaf) → Type 0
@@ -69,7 +69,7 @@ IsFirstKey by passes (Some first) =
 -- the first root of a rank behind another
 abbrev pub IsNextRoot : RootsBy → ℕ → Option Leaf → Option Leaf → Type 0
 IsNextRoot by rank after (Some root) =
-    IsSome (map.get by (rank, root)) × IsBehind after root
-    × ((other : Leaf) → IsSome (map.get by (rank, other)) → IsBehind after other → (other ≡ root)
+    IsSome (map.get by (rank, root)) × IsRootBehind after root
+    × ((other : Leaf) → IsSome (map.get by (rank, other)) → IsRootBehind after other → (other ≡ root)
     ⊎ (leaf_cmp root other ≡ Less))
-IsNextRoot by rank after None = (root : Leaf) → IsSome (map.get by (rank, root)) → IsBehind after root → ⊥
+IsNextRoot by rank after None = (root : Leaf) → IsSome (map.get by (rank, root)) → IsRootBehind after root → ⊥

@@ -7,8 +7,8 @@ use Rattle.inode_table.specs.declared.dirs.Home.{Home}
 use Rattle.inode_table.specs.Dirs.{Homes, Covers, IsChildless, IsLive, IsTable, MayCome, MayMove, leaves_of}
 use Rattle.mds_types.specs.Leaf.{Leaf}
 use Rattle.subtree_map.specs.Authority.{HoldsDentry, IsInRegion, IsSubtrees}
-use Rattle.subtree_map.specs.Changes.{AreGone, IsRootMerge, IsRootSplit, Subtrees, is_inside, leaf_of}
-use Rattle.subtree_map.specs.Moves.{IsSettled}
+use Rattle.subtree_map.specs.Changes.{AreGone, IsRootMerge, IsRootSplit, Subtrees, is_inside, leaf_in_dir}
+use Rattle.subtree_map.specs.Moves.{KeepsRanksOf}
 use Rattle.export_steps.specs.declared.exports.StandingExport.{StandingExport}
 use Rattle.export_steps.specs.Standing.{Standing, ArePlaced, is_freezing}
 use Rattle.export_steps.specs.Holder.{IsFrozen}
@@ -35,7 +35,7 @@ pub record IsSplitElsewhere (standing : Standing) (was now : Subtrees) (homes : 
   pub frag : Fragment
   pub bits : ℕ
   pub leaves : List Fragment
-  pub thawed : IsFrozen standing was.roots homes covers (leaf_of dir frag) → ⊥
+  pub thawed : IsFrozen standing was.roots homes covers (leaf_in_dir dir frag) → ⊥
   pub stands : HasLeaf (leaves_of covers dir) frag
   pub fits : FitsSplit frag bits
   pub split : IsSplit (leaves_of covers dir) leaves frag bits
@@ -69,7 +69,7 @@ pub record IsMoveElsewhere (standing : Standing) (was now : Subtrees) (homes lat
       → IsFrozen standing was.roots homes covers holder → ⊥
   pub to_thawed : (holder : Leaf) → HoldsDentry covers home holder → IsFrozen standing was.roots homes covers holder → ⊥
   pub changed : later ≡ map.insert homes dir home
-  pub roots : IsSettled was.roots now.roots homes covers dir home
+  pub roots : KeepsRanksOf was.roots now.roots homes covers dir home
   pub promises : now.promises ≡ was.promises
 
 -- a directory comes in, whose dentry is held by a leaf that isn't frozen

@@ -1,7 +1,7 @@
 //! The exports of one exporter, with no look at those of others.
 ghost use Rattle.std.specs.Prelude.{◌≡◌};
 ghost use Rattle.sorted_map.specs.SortedMap.{contents};
-ghost use Rattle.export_steps.specs.ByExporter.{IsFirstKey, IsNextOf, IsNextRoot, by_cmp, comes, first_of};
+ghost use Rattle.export_steps.specs.ByExporter.{IsFirstKey, IsNextOf, IsNextRoot, by_cmp, comes, first_root_of};
 
 use crate::exports::{Exports, StandingExport};
 use mds_types::{Frag, Ino, Rank};
@@ -60,7 +60,7 @@ fn first_key(
 
 // The key of the first pair.
 fn key_of(pairs: Iter<'_, (u8, (Ino, Frag)), ()>) -> Option<(u8, (Ino, Frag))>
-    ensures { result ≡ first_of pairs.entry }
+    ensures { result ≡ first_root_of pairs.entry }
 {
     let mut pairs = pairs;
     match pairs.next() {

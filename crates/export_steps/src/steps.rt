@@ -7,7 +7,7 @@ ghost use Rattle.mds_types.specs.Leaf.{leaf_cmp};
 ghost use Rattle.subtree_map.specs.Changes.{Subtrees as SubtreesSeen};
 ghost use Rattle.export_steps.specs.declared.exports.ExportState.TheVariants as state;
 ghost use Rattle.export_steps.specs.ByExporter.{AreExports, RootsBy, by_cmp};
-ghost use Rattle.export_steps.specs.Standing.{AreKept, IsBetweenRanks, ArePlaced, Cancels, Finishes, Freezes, IsNoRootYet, Preps, Starts, Steps, come_to, is_before_send, is_freezing, state_at};
+ghost use Rattle.export_steps.specs.Standing.{AreKept, IsBetweenRanks, ArePlaced, Cancels, Finishes, Freezes, IsNoRootYet, Preps, Starts, StepsExport, come_to, is_before_send, is_freezing, state_at};
 
 use crate::exports::{ExportState, Exports, StandingExport};
 use inode_table::Dirs;
@@ -119,7 +119,7 @@ impl Exports {
     /// # Errors
     /// `WrongExportState` where no prepared export of this root stands; then all is left as it was.
     pub fn send(&mut self, dir: Ino, frag: Frag) -> Result<(), Refusal>
-        ensures outcome { Steps self.old self.new (dir, frag) state.Prepared state.Sent result }
+        ensures outcome { StepsExport self.old self.new (dir, frag) state.Prepared state.Sent result }
         ensures placed { (subtrees : SubtreesSeen) → ArePlaced self.old subtrees → ArePlaced self.new subtrees }
     {
         let (from, to) = (ExportState::Prepared, ExportState::Sent);
@@ -131,7 +131,7 @@ impl Exports {
     /// # Errors
     /// `WrongExportState` where no sent export of this root stands; then all is left as it was.
     pub fn import(&mut self, dir: Ino, frag: Frag) -> Result<(), Refusal>
-        ensures outcome { Steps self.old self.new (dir, frag) state.Sent state.Imported result }
+        ensures outcome { StepsExport self.old self.new (dir, frag) state.Sent state.Imported result }
         ensures placed { (subtrees : SubtreesSeen) → ArePlaced self.old subtrees → ArePlaced self.new subtrees }
     {
         let (from, to) = (ExportState::Sent, ExportState::Imported);
@@ -315,7 +315,7 @@ fn advance(
     from: ExportState,
     to: ExportState,
 ) -> Result<(), Refusal>
-    ensures outcome { Steps (contents leaf_cmp rows.old) (contents leaf_cmp rows.new) (dir, frag) from to result }
+    ensures outcome { StepsExport (contents leaf_cmp rows.old) (contents leaf_cmp rows.new) (dir, frag) from to result }
     ensures kept { (by : RootsBy) → AreExports (contents leaf_cmp rows.old) by
         → AreExports (contents leaf_cmp rows.new) by }
 {

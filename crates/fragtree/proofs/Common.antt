@@ -1,5 +1,5 @@
 -- Names of other crates, and of this one's definitions, as the proofs of this crate take them.
-pub use Rattle.fragtree.specs.Descents.{AllSome, Descends, Ends, EndsBeyond, IsKept, IsLedTo, IsSplitRound, KeepsEnds, Spells, Splits, frag_at, halved, leaves_of, on, splits_round, there}
+pub use Rattle.fragtree.specs.Descents.{AllSome, Descends, Ends, EndsBeyond, SpellsLeaves, IsLedTo, IsSplitRound, KeepsEnds, Spells, FragSplits, frag_of_hash, halved, spelled_leaves, on, splits_round, there}
 pub use Rattle.fragtree.specs.FragTree.{HasLeaf, IsAscendingCover, IsPick, IsTree, Tiles}
 pub use Rattle.mds_types.specs.Frag.{Contains, ContainsFragment, Fragment, IsFragment, frag_cmp, root_fragment, span}
 pub use Rattle.mds_types.specs.OrderLaws.{frag-exact}

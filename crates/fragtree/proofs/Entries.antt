@@ -9,7 +9,7 @@ use Rattle.mds_types.specs.Frag.{Fragment, frag_cmp}
 use Rattle.mds_types.specs.OrderLaws.{frag-exact}
 use Rattle.mds_types.proofs.OrderLaws.{frag-total}
 use Rattle.sorted_map.proofs.MapLaws.{tie}
-use Rattle.fragtree.specs.Descents.{Splits}
+use Rattle.fragtree.specs.Descents.{FragSplits}
 
 pub apart : (q k : Fragment) → q ≢ k → eq_by_cmp frag_cmp q k ≡ false
 apart q k other = elim (cases_Bool (eq_by_cmp frag_cmp q k)) [ inl tied ↦ absurd (other (frag-exact q k (tie _ tied))) | inr is ↦ is ]
@@ -23,7 +23,7 @@ one_or_other f g = elim (cases_Bool (eq_by_cmp frag_cmp f g)) [
   | inr is ↦ inr (λ same. let clash : true ≡ false = sym (itself g) ∙ ap (λ h. eq_by_cmp frag_cmp h g) (sym same) ∙ is in cc)
 ]
 
-module _ (m : Splits) (k : Fragment) where
+module _ (m : FragSplits) (k : Fragment) where
   pub get_put : (x : ℕ) → map.get (map.insert m k x) k ≡ Some x
   get_put x = get-insert frag-total m k x k ∙ ap (λ b. cond b (Some x) (map.get m k)) (itself k)
 
@@ -51,9 +51,9 @@ module _ (m : Splits) (k : Fragment) where
   ]
 
 -- a map that loses a key gets shorter
-pub fewer : (m : Splits) (k : Fragment) → IsSome (map.get m k) → map.len (map.remove m k) < map.len m
+pub fewer : (m : FragSplits) (k : Fragment) → IsSome (map.get m k) → map.len (map.remove m k) < map.len m
 fewer m k there =
     let shorter : map.len (map.remove m k) ≡ map.len m - 1 = len-remove frag-total m k ∙ ap (λ b. cond b (map.len m - 1) (map.len m)) there in
     let some : map.len m ≡ 0 → ⊥ = λ none.
-    let clash : false ≡ true = sym (ap (λ (n : Splits). is_some (map.get n k)) (empty_of_len m none) ∙ ap is_some (get-empty frag_cmp k)) ∙ there in cc in
+    let clash : false ≡ true = sym (ap (λ (n : FragSplits). is_some (map.get n k)) (empty_of_len m none) ∙ ap is_some (get-empty frag_cmp k)) ∙ there in cc in
     omega arith

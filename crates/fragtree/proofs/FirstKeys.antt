@@ -1,5 +1,5 @@
 -- The first fragment that is split, of those from another on.
-use Rattle.fragtree.proofs.Common.{ContainsFragment, Equal, Fragment, Greater, IsFragment, Less, List, MatchOrdering, None, Ordering, Some, Splits, T, [], ap, arith, below_all, cases_Bool, cases_lt, cond, entries_sorted, find, find-where_key, frag-exact, frag_cmp, get-entries, inl, inr, is_from, is_le, is_lt, is_sorted, is_sorted-where_key, left_of, nat_cmp, ordering_then, ranks, refl, right_of, span, subst, sym, true, where_key, ℕ, ◌+◌, ◌<◌, ◌↔◌, ◌∙◌, ◌∷◌, ◌≡◌, ◌≤◌, ◌⊎◌}
+use Rattle.fragtree.proofs.Common.{ContainsFragment, Equal, Fragment, Greater, IsFragment, Less, List, MatchOrdering, None, Ordering, Some, FragSplits, T, [], ap, arith, below_all, cases_Bool, cases_lt, cond, entries_sorted, find, find-where_key, frag-exact, frag_cmp, get-entries, inl, inr, is_from, is_le, is_lt, is_sorted, is_sorted-where_key, left_of, nat_cmp, ordering_then, ranks, refl, right_of, span, subst, sym, true, where_key, ℕ, ◌+◌, ◌<◌, ◌↔◌, ◌∙◌, ◌∷◌, ◌≡◌, ◌≤◌, ◌⊎◌}
 use Rattle.std.specs.FinMap as map
 use Rattle.sorted_map.proofs.PlaceLaws.{less as less_so}
 use Rattle.fragtree.proofs.Entries.{apart, itself}
@@ -29,7 +29,7 @@ not_behind g e (x ∷ es) less below =
     let rises : e.value ≤ x.0.value = value_rises e x.0 (left_of _ _ below) in
     ap (λ b. cond b (Some x.1) (find frag_cmp g es)) (apart g x.0 (λ same. omega (arith, ap (λ (k : Fragment). k.value) same, less, rises))) ∙ not_behind g e es less (right_of _ _ below)
 
-module _ (m : Splits) (f : Fragment) where
+module _ (m : FragSplits) (f : Fragment) where
   -- a key is found among those from f on if it is one of them
   found_there : (g : Fragment) (found : List (Fragment × ℕ)) → where_key frag_cmp (is_from frag_cmp f) (map.entries m) ≡ found → find frag_cmp g found ≡ cond (is_from frag_cmp f g) (map.get m g) None
   found_there g found is =

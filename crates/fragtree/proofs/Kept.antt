@@ -4,7 +4,7 @@ use Rattle.std.proofs.Math.Nat.{mod-eq_of_lt}
 use Rattle.std.specs.FinMap as map
 use Rattle.mds_types.specs.Frag.{Fragment, IsFragment, root_fragment, span}
 use Rattle.fragtree.specs.FragTree.{IsTree, IsPick, IsSplit, IsMerge, CanSplit, CanMerge, leaves_inside}
-use Rattle.fragtree.specs.Descents.{Splits, AllSome, Ends, EndsBeyond, IsClosed, IsKept, Spells, depth, frag_at, fragments_from, leaves_of, splits_round}
+use Rattle.fragtree.specs.Descents.{FragSplits, AllSome, Ends, EndsBeyond, IsClosed, SpellsLeaves, Spells, depth, frag_of_hash, fragments_from, spelled_leaves, splits_round}
 use Rattle.fragtree.proofs.Merges.{finer, merges}
 use Rattle.fragtree.proofs.Ranges.{span_pos}
 use Rattle.fragtree.proofs.Rounds.{frag_at-is}
@@ -17,12 +17,12 @@ length-fragments_from : (bits_of : ℕ → ℕ) (count low : ℕ) → length (fr
 length-fragments_from bits_of zero low = refl
 length-fragments_from bits_of (suc count) low = ap suc (length-fragments_from bits_of count (low + span (bits_of low)))
 
-pub length-leaves_of : (s : Splits) (count : ℕ) → length (leaves_of s count) ≡ count
-unfolding leaves_of
+pub length-leaves_of : (s : FragSplits) (count : ℕ) → length (spelled_leaves s count) ≡ count
+unfolding spelled_leaves
 length-leaves_of s count = length-fragments_from (λ hash. depth 24 (splits_round s hash) 0) count 0
 
 -- the leaf of a hash, and that the descent of the hash ends there
-module _ (s : Splits) (xs : List Fragment) (tree : IsTree xs) (spells : Spells s xs) where
+module _ (s : FragSplits) (xs : List Fragment) (tree : IsTree xs) (spells : Spells s xs) where
   picked : (hash : ℕ) → (leaf : Fragment) × IsPick xs hash leaf × IsFragment leaf × (leaf.value ≤ hash % 2 ^ 24) × (hash % 2 ^ 24 < leaf.value + span leaf.bits) × Ends (splits_round s (hash % 2 ^ 24)) leaf.bits
   picked hash =
       let (leaf, p) = some_pick xs hash tree in
@@ -32,7 +32,7 @@ module _ (s : Splits) (xs : List Fragment) (tree : IsTree xs) (spells : Spells s
   pub pick_ends : (hash : ℕ) → EndsBeyond s (hash % 2 ^ 24) 0
   pick_ends hash = let w = picked hash in record { bits = w.0.bits; more = omega arith; few = w.2.few_bits; ends = w.5 }
 
-  pub pick_is : (hash : ℕ) (leaf : Fragment) → ((bits : ℕ) → bits ≤ 24 → Ends (splits_round s (hash % 2 ^ 24)) bits → leaf ≡ frag_at bits (hash % 2 ^ 24)) → IsPick xs hash leaf
+  pub pick_is : (hash : ℕ) (leaf : Fragment) → ((bits : ℕ) → bits ≤ 24 → Ends (splits_round s (hash % 2 ^ 24)) bits → leaf ≡ frag_of_hash bits (hash % 2 ^ 24)) → IsPick xs hash leaf
   pick_is hash leaf told =
       let w = picked hash in
       subst (IsPick xs hash) (sym (told w.0.bits w.2.few_bits w.5 ∙ frag_at-is w.0 (hash % 2 ^ 24) w.2 w.3 w.4)) w.1
@@ -42,7 +42,7 @@ pub whole_tree : IsTree (root_fragment ∷ [])
 whole_tree = record { tiles = (record { few_bits = omega arith; in_range = omega arith; justified = refl }, refl, refl); few = omega arith }
 
 -- a split and a merge of what is kept, in the words of the calls
-module _ (s mid new : Splits) (count : ℕ) (now : List Fragment) (kept : IsKept s count) (view : leaves_of s count ≡ now) (same : mid ≡ s) where
+module _ (s mid new : FragSplits) (count : ℕ) (now : List Fragment) (kept : SpellsLeaves s count) (view : spelled_leaves s count ≡ now) (same : mid ≡ s) where
   tree : IsTree now
   tree = subst IsTree view kept.tree
 
@@ -56,11 +56,11 @@ module _ (s mid new : Splits) (count : ℕ) (now : List Fragment) (kept : IsKept
   some_leaf = omega (arith, (some_pick now 0 tree).1.stands.1, counted)
 
   pub split_done : (f : Fragment) (nb children : ℕ) → CanSplit now f nb → new ≡ map.insert mid f nb → children ≡ 2 ^ nb
-      → (count - 1 + children ≤ 4096) × IsKept new (count - 1 + children) × IsSplit now (leaves_of new (count - 1 + children)) f nb
+      → (count - 1 + children ≤ 4096) × SpellsLeaves new (count - 1 + children) × IsSplit now (spelled_leaves new (count - 1 + children)) f nb
   split_done f nb children can is few =
       let (ys, whole, split) = splits f nb now tree can in
-      let all : map.insert s f nb ≡ new = sym (is ∙ ap (λ (m : Splits). map.insert m f nb) same) in
-      let spelled = subst (λ (m : Splits). Spells m ys) all (split_spells s now ys f nb tree spells can.stands can.fits whole split) in
+      let all : map.insert s f nb ≡ new = sym (is ∙ ap (λ (m : FragSplits). map.insert m f nb) same) in
+      let spelled = subst (λ (m : FragSplits). Spells m ys) all (split_spells s now ys f nb tree spells can.stands can.fits whole split) in
       let v = is_kept new ys (count - 1 + children) whole spelled (omega (arith, split.count, counted, few)) in
       (omega (arith, can.few, counted, few), v.1, subst (λ zs. IsSplit now zs f nb) (sym v.0) split)
 
@@ -70,13 +70,13 @@ module _ (s mid new : Splits) (count : ℕ) (now : List Fragment) (kept : IsKept
       let low : f.value % 2 ^ 24 ≡ f.value = mod-eq_of_lt whole.in_range in
       let more = finer f whole now tree can.some w.0 w.1.stands (omega (arith, w.3, low, span_pos f.bits)) (omega (arith, w.4, low)) in
       let ends = subst (λ n. Ends (splits_round s n) w.0.bits) low w.5 in
-      subst (λ (m : Splits). EndsBeyond m f.value (f.bits + 1)) (sym same) (record { bits = w.0.bits; more = omega (arith, more); few = w.2.few_bits; ends = ends })
+      subst (λ (m : FragSplits). EndsBeyond m f.value (f.bits + 1)) (sym same) (record { bits = w.0.bits; more = omega (arith, more); few = w.2.few_bits; ends = ends })
 
   pub merge_done : (f : Fragment) (inside : ℕ) → IsFragment f → CanMerge now f → inside ≡ length (leaves_inside f now) → AllSome new → IsClosed mid new f
-      → IsKept new (count - inside + 1) × IsMerge now (leaves_of new (count - inside + 1)) f
+      → SpellsLeaves new (count - inside + 1) × IsMerge now (spelled_leaves new (count - inside + 1)) f
   merge_done f inside h can is some closes =
       let (ys, whole, merge) = merges f h now tree can.some in
-      let spelled = merge_spells s new now ys f tree spells whole merge some (subst (λ (m : Splits). IsClosed m new f) same closes) in
+      let spelled = merge_spells s new now ys f tree spells whole merge some (subst (λ (m : FragSplits). IsClosed m new f) same closes) in
       let v = is_kept new ys (count - inside + 1) whole spelled (omega (arith, merge.count, is, counted, inside_few f now)) in
       (v.1, subst (λ zs. IsMerge now zs f) (sym v.0) merge)
 

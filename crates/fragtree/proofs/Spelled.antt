@@ -5,7 +5,7 @@ use Rattle.mds_types.specs.Frag.{Fragment, IsFragment, child_of, span}
 use Rattle.mds_types.proofs.Fragments.{child_is_fragment, span-split}
 use Rattle.std.proofs.lemmas.Bool.{cases_lt}
 use Rattle.fragtree.specs.FragTree.{Tiles, IsTree, HasLeaf, IsSplit, IsMerge, FitsSplit}
-use Rattle.fragtree.specs.Descents.{Splits, AllSome, Descends, there, on, Ends, IsClosed, IsForgotten, IsKept, KeepsEnds, Spells, depth, frag_at, fragments_from, halved, leaves_of, splits_round}
+use Rattle.fragtree.specs.Descents.{FragSplits, AllSome, Descends, there, on, Ends, IsClosed, IsForgotten, SpellsLeaves, KeepsEnds, Spells, depth, frag_of_hash, fragments_from, halved, spelled_leaves, splits_round}
 use Rattle.fragtree.proofs.DescentLaws.{depth-is, joined, kept, rest, rises}
 use Rattle.fragtree.proofs.Entries.{after_put, get_beside, get_put}
 use Rattle.fragtree.proofs.Ranges.{child_within, span_pos, ends_low}
@@ -18,44 +18,44 @@ fragments_from-is : (bits_of : ℕ → ℕ) (low high : ℕ) (xs : List Fragment
 fragments_from-is bits_of low high [] t told = refl
 fragments_from-is bits_of low high (f ∷ fs) t told =
     let first : bits_of low ≡ f.bits = ap bits_of (sym t.1) ∙ told f (zero, omega arith, refl) in
-    let head : frag_at f.bits low ≡ f = frag_at-is f low t.0 (omega (arith, t.1)) (omega (arith, t.1, span_pos f.bits)) in
+    let head : frag_of_hash f.bits low ≡ f = frag_at-is f low t.0 (omega (arith, t.1)) (omega (arith, t.1, span_pos f.bits)) in
     let more : fragments_from bits_of (length fs) (low + span f.bits) ≡ fs =
     fragments_from-is bits_of (low + span f.bits) high fs t.2 (λ g (k, stands, is). told g (suc k, omega (arith, stands), is)) in
-    ap (λ b. frag_at b low ∷ fragments_from bits_of (length fs) (low + span b)) first ∙ ap (λ g. g ∷ fragments_from bits_of (length fs) (low + span f.bits)) head ∙ ap (λ ys. f ∷ ys) more
+    ap (λ b. frag_of_hash b low ∷ fragments_from bits_of (length fs) (low + span b)) first ∙ ap (λ g. g ∷ fragments_from bits_of (length fs) (low + span f.bits)) head ∙ ap (λ ys. f ∷ ys) more
 
-round_some : (s : Splits) → AllSome s → (h b nb : ℕ) → splits_round s h b ≡ Some nb → 1 ≤ nb
-round_some s some h b nb is = some (frag_at b h) nb is
+round_some : (s : FragSplits) → AllSome s → (h b nb : ℕ) → splits_round s h b ≡ Some nb → 1 ≤ nb
+round_some s some h b nb is = some (frag_of_hash b h) nb is
 
 -- leaves that are spelled are the leaves that the splits spell
-pub leaves_of-is : (s : Splits) (xs : List Fragment) → IsTree xs → Spells s xs → leaves_of s (length xs) ≡ xs
-unfolding leaves_of
+pub leaves_of-is : (s : FragSplits) (xs : List Fragment) → IsTree xs → Spells s xs → spelled_leaves s (length xs) ≡ xs
+unfolding spelled_leaves
 leaves_of-is s xs tree spells = fragments_from-is (λ hash. depth 24 (splits_round s hash) 0) 0 (2 ^ 24) xs tree.tiles (λ g stands.
     let few : g.bits ≤ 24 = (between 0 (2 ^ 24) xs g tree.tiles stands).0.few_bits in
     let e = spells.ends g stands g.value (omega arith) (omega (arith, span_pos g.bits)) in
     depth-is (splits_round s g.value) (round_some s spells.some g.value) 24 g.bits 0 e.descends (e.nothing g.bits (omega arith) few) (omega (arith, few)))
 
-pub is_kept : (s : Splits) (xs : List Fragment) (count : ℕ) → IsTree xs → Spells s xs → count ≡ length xs → (leaves_of s count ≡ xs) × IsKept s count
+pub is_kept : (s : FragSplits) (xs : List Fragment) (count : ℕ) → IsTree xs → Spells s xs → count ≡ length xs → (spelled_leaves s count ≡ xs) × SpellsLeaves s count
 is_kept s xs count tree spells is =
-    let same : leaves_of s count ≡ xs = ap (leaves_of s) is ∙ leaves_of-is s xs tree spells in
+    let same : spelled_leaves s count ≡ xs = ap (spelled_leaves s) is ∙ leaves_of-is s xs tree spells in
     (same, record { tree = subst IsTree (sym same) tree; spells = subst (Spells s) (sym same) spells })
 
 -- what isn't split otherwise round a hash is descended as before
-ends_alike : (s : Splits) → AllSome s → (h : ℕ) (new : Splits) (to : ℕ) → to ≤ 24 → ((b : ℕ) → b ≤ 24 → map.get new (frag_at b h) ≡ map.get s (frag_at b h)) → Ends (splits_round s h) to → Ends (splits_round new h) to
+ends_alike : (s : FragSplits) → AllSome s → (h : ℕ) (new : FragSplits) (to : ℕ) → to ≤ 24 → ((b : ℕ) → b ≤ 24 → map.get new (frag_of_hash b h) ≡ map.get s (frag_of_hash b h)) → Ends (splits_round s h) to → Ends (splits_round new h) to
 ends_alike s some h new to few same e = record {
   descends = kept (splits_round s h) (round_some s some h) (splits_round new h) to 0 (λ b from below. same b (omega arith)) e.descends;
   nothing = λ b from at_most. same b at_most ∙ e.nothing b from at_most;
 }
 
-put_some : (s : Splits) (k : Fragment) (x : ℕ) → AllSome s → 1 ≤ x → AllSome (map.insert s k x)
+put_some : (s : FragSplits) (k : Fragment) (x : ℕ) → AllSome s → 1 ≤ x → AllSome (map.insert s k x)
 put_some s k x some more g nb is = elim (after_put s k x g nb is) [ inl put ↦ omega (arith, more, put.1) | inr old ↦ some g nb old ]
 
 -- a split
-module _ (s : Splits) (xs ys : List Fragment) (f : Fragment) (nb : ℕ) (was : IsTree xs) (spells : Spells s xs) (stands : HasLeaf xs f) (fits : FitsSplit f nb) (now : IsTree ys) (split : IsSplit xs ys f nb) where
+module _ (s : FragSplits) (xs ys : List Fragment) (f : Fragment) (nb : ℕ) (was : IsTree xs) (spells : Spells s xs) (stands : HasLeaf xs f) (fits : FitsSplit f nb) (now : IsTree ys) (split : IsSplit xs ys f nb) where
   ends_in_child : (h : ℕ) → f.value ≤ h → h < f.value + span f.bits → Ends (splits_round (map.insert s f nb) h) (f.bits + nb)
   ends_in_child h low high =
       let e = spells.ends f stands h low high in
       let whole = (between 0 (2 ^ 24) xs f was.tiles stands).0 in
-      let beside : (b : ℕ) → b ≢ f.bits → splits_round (map.insert s f nb) h b ≡ splits_round s h b = λ b other. get_beside s f nb (frag_at b h) (λ same. other (ap (λ (k : Fragment). k.bits) same)) in
+      let beside : (b : ℕ) → b ≢ f.bits → splits_round (map.insert s f nb) h b ≡ splits_round s h b = λ b other. get_beside s f nb (frag_of_hash b h) (λ same. other (ap (λ (k : Fragment). k.bits) same)) in
       let here : splits_round (map.insert s f nb) h f.bits ≡ Some nb = ap (map.get (map.insert s f nb)) (frag_at-is f h whole low high) ∙ get_put s f nb in
       let first = kept (splits_round s h) (round_some s spells.some h) (splits_round (map.insert s f nb) h) f.bits 0 (λ b from below. beside b (λ same. omega (arith, same))) e.descends in
       record {
@@ -69,8 +69,8 @@ module _ (s : Splits) (xs ys : List Fragment) (f : Fragment) (nb : ℕ) (was : I
     ends = λ g new h low high. elim ((split.leaves g).0 new) [
       | inl old ↦
           let few : g.bits ≤ 24 = (between 0 (2 ^ 24) xs g was.tiles old.0).0.few_bits in
-          let other : (b : ℕ) → frag_at b h ≢ f = λ b. outside f h b (λ w. old.1 (one_leaf xs g f h was old.0 stands low high w.0 w.1)) in
-          ends_alike s spells.some h (map.insert s f nb) g.bits few (λ b at_most. get_beside s f nb (frag_at b h) (other b)) (spells.ends g old.0 h low high)
+          let other : (b : ℕ) → frag_of_hash b h ≢ f = λ b. outside f h b (λ w. old.1 (one_leaf xs g f h was old.0 stands low high w.0 w.1)) in
+          ends_alike s spells.some h (map.insert s f nb) g.bits few (λ b at_most. get_beside s f nb (frag_of_hash b h) (other b)) (spells.ends g old.0 h low high)
       | inr child ↦
           let is : g ≡ child_of f child.0 nb = child.2 in
           let begins : f.value ≤ g.value = omega (arith, ap (λ (k : Fragment). k.value) is) in
@@ -81,7 +81,7 @@ module _ (s : Splits) (xs ys : List Fragment) (f : Fragment) (nb : ℕ) (was : I
   }
 
 -- halving a fragment that is split by two bits or more, and that a descent passes
-module _ (s : Splits) (some : AllSome s) (g : Fragment) (nb h0 : ℕ) (whole : IsFragment g) (is : map.get s g ≡ Some nb) (two : 2 ≤ nb) (fits : g.bits + nb ≤ 24) (low0 : g.value ≤ h0) (high0 : h0 < g.value + span g.bits) (passes : Descends (splits_round s h0) g.bits 0) where
+module _ (s : FragSplits) (some : AllSome s) (g : Fragment) (nb h0 : ℕ) (whole : IsFragment g) (is : map.get s g ≡ Some nb) (two : 2 ≤ nb) (fits : g.bits + nb ≤ 24) (low0 : g.value ≤ h0) (high0 : h0 < g.value + span g.bits) (passes : Descends (splits_round s h0) g.bits 0) where
   abbrev left : Fragment
   left = child_of g 0 1
 
@@ -121,7 +121,7 @@ module _ (s : Splits) (some : AllSome s) (g : Fragment) (nb h0 : ℕ) (whole : I
 
   -- before g and behind the former children of g all is split as before
   beside_g : (h b : ℕ) → b ≢ g.bits → b ≢ g.bits + 1 → splits_round (halved s g nb) h b ≡ splits_round s h b
-  beside_g h b not_g not_half = elsewhere (frag_at b h) (other_bits (frag_at b h) g not_g) (other_bits (frag_at b h) left not_half) (other_bits (frag_at b h) right not_half)
+  beside_g h b not_g not_half = elsewhere (frag_of_hash b h) (other_bits (frag_of_hash b h) g not_g) (other_bits (frag_of_hash b h) left not_half) (other_bits (frag_of_hash b h) right not_half)
 
   pub halved_passes : (h : ℕ) → g.value ≤ h → h < g.value + span g.bits → Descends (splits_round (halved s g nb) h) (g.bits + 1) 0
   halved_passes h low high =
@@ -149,7 +149,7 @@ module _ (s : Splits) (some : AllSome s) (g : Fragment) (nb h0 : ℕ) (whole : I
   pub halved_keeps : KeepsEnds s (halved s g nb)
   halved_keeps h bits low few e = elim (in_or_out g h) [
     | inl within ↦ inside_g h bits within.0 within.1 few e
-    | inr out ↦ ends_alike s some h (halved s g nb) bits few (λ b at_most. elsewhere (frag_at b h) (outside g h b out) (outside left h b (out_of_half out 0 (omega arith))) (outside right h b (out_of_half out 1 (omega arith)))) e
+    | inr out ↦ ends_alike s some h (halved s g nb) bits few (λ b at_most. elsewhere (frag_of_hash b h) (outside g h b out) (outside left h b (out_of_half out 0 (omega arith))) (outside right h b (out_of_half out 1 (omega arith)))) e
   ]
     where
       out_of_half : ((g.value ≤ h) × (h < g.value + span g.bits) → ⊥) → (i : ℕ) → i < 2 → ((child_of g i 1).value ≤ h) × (h < (child_of g i 1).value + span (g.bits + 1)) → ⊥
@@ -162,18 +162,18 @@ module _ (s : Splits) (some : AllSome s) (g : Fragment) (nb h0 : ℕ) (whole : I
       put_some (map.insert (map.insert s g 1) left (nb - 1)) right (nb - 1) two_put (omega (arith, two))
 
 -- a fragment that a descent passes, with nothing split there or below any more
-pub closed : (s new : Splits) (f : Fragment) → AllSome s → IsFragment f → Descends (splits_round s f.value) f.bits 0 → IsForgotten s new f → IsClosed s new f
+pub closed : (s new : FragSplits) (f : Fragment) → AllSome s → IsFragment f → Descends (splits_round s f.value) f.bits 0 → IsForgotten s new f → IsClosed s new f
 closed s new f some whole passes forgot = record {
   inside = λ h low high. record {
     descends = kept (splits_round s f.value) (round_some s some f.value) (splits_round new h) f.bits 0
-        (λ b from below. forgot.kept (frag_at b h) (λ w. omega (arith, w.0, below)) ∙ ap (map.get s) (frag_at-alike f h b whole low high (omega (arith, below)))) passes;
-    nothing = λ b from few. forgot.gone (frag_at b h) (frag_at-IsFragment b h few (omega (arith, high, ends_low f whole))) (within_round f h b whole (omega (arith, high, ends_low f whole)) few low high from);
+        (λ b from below. forgot.kept (frag_of_hash b h) (λ w. omega (arith, w.0, below)) ∙ ap (map.get s) (frag_at-alike f h b whole low high (omega (arith, below)))) passes;
+    nothing = λ b from few. forgot.gone (frag_of_hash b h) (frag_at-IsFragment b h few (omega (arith, high, ends_low f whole))) (within_round f h b whole (omega (arith, high, ends_low f whole)) few low high from);
   };
-  outside = λ h bits low few apart e. ends_alike s some h new bits few (λ b at_most. forgot.kept (frag_at b h) (λ w. not_within_round f h b whole low at_most apart w)) e;
+  outside = λ h bits low few apart e. ends_alike s some h new bits few (λ b at_most. forgot.kept (frag_of_hash b h) (λ w. not_within_round f h b whole low at_most apart w)) e;
 }
 
 -- a merge
-pub merge_spells : (s new : Splits) (xs ys : List Fragment) (f : Fragment) → IsTree xs → Spells s xs → IsTree ys → IsMerge xs ys f → AllSome new → IsClosed s new f → Spells new ys
+pub merge_spells : (s new : FragSplits) (xs ys : List Fragment) (f : Fragment) → IsTree xs → Spells s xs → IsTree ys → IsMerge xs ys f → AllSome new → IsClosed s new f → Spells new ys
 merge_spells s new xs ys f was spells now merge some closes = record {
   some = some;
   ends = λ g stands h low high. elim (in_or_out f h) [
@@ -190,5 +190,5 @@ merge_spells s new xs ys f was spells now merge some closes = record {
 }
 
 -- descents that were kept before
-pub closed_after : (old s new : Splits) (f : Fragment) → KeepsEnds old s → IsClosed s new f → IsClosed old new f
+pub closed_after : (old s new : FragSplits) (f : Fragment) → KeepsEnds old s → IsClosed s new f → IsClosed old new f
 closed_after old s new f keeps closes = record { inside = closes.inside; outside = λ h bits low few apart e. closes.outside h bits low few apart (keeps h bits low few e) }

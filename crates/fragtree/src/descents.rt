@@ -2,7 +2,7 @@
 ghost use Rattle.std.specs.Prelude.{◌≡◌, ℕ, ◌+◌, ◌^◌, ◌<◌, ◌≤◌};
 ghost use Rattle.mds_types.specs.Frag.{IsFragment, frag_cmp, span};
 ghost use Rattle.sorted_map.specs.SortedMap.{contents};
-ghost use Rattle.fragtree.specs.Descents.{AllSome, Ends, EndsBeyond, frag_at, splits_round};
+ghost use Rattle.fragtree.specs.Descents.{AllSome, Ends, EndsBeyond, frag_of_hash, splits_round};
 
 use mds_types::Frag;
 use sorted_map::SortedMap;
@@ -13,7 +13,7 @@ pub fn leaf_of(splits: &SortedMap<Frag, u8>, hash: u32) -> Frag
     requires some { AllSome (contents frag_cmp splits.now) }
     requires ends { EndsBeyond (contents frag_cmp splits.now) hash 0 }
     ensures { (bits : ℕ) → bits ≤ 24 → Ends (splits_round (contents frag_cmp splits.now) hash) bits
-        → result ≡ frag_at bits hash }
+        → result ≡ frag_of_hash bits hash }
 {
     let mut leaf = Frag::ROOT;
     while let Some(nb) = splits.get(&leaf) {
@@ -26,7 +26,7 @@ pub fn leaf_of(splits: &SortedMap<Frag, u8>, hash: u32) -> Frag
 pub fn frag_at(bits: u8, hash: u32) -> Frag
     requires few { bits ≤ 24 }
     requires low { hash < 2 ^ 24 }
-    ensures { result ≡ frag_at bits hash }
+    ensures { result ≡ frag_of_hash bits hash }
 {
     let span = 1 << (Frag::MAX_BITS - bits);
     Frag::new(hash - hash % span, bits).unwrap()

@@ -21,13 +21,13 @@ impl Model for FragTree {
     ghost use Rattle.std.specs.Prelude.{List};
     ghost use Rattle.mds_types.specs.Frag.{Fragment, frag_cmp};
     ghost use Rattle.sorted_map.specs.SortedMap.{contents};
-    ghost use Rattle.fragtree.specs.Descents.{IsKept, leaves_of};
+    ghost use Rattle.fragtree.specs.Descents.{SpellsLeaves, spelled_leaves};
 
     ghost Value = { List Fragment };
 
-    ghost view = { λ t. leaves_of (contents frag_cmp t.splits) t.count };
+    ghost view = { λ t. spelled_leaves (contents frag_cmp t.splits) t.count };
 
-    ghost invariant = { λ t. IsKept (contents frag_cmp t.splits) t.count };
+    ghost invariant = { λ t. SpellsLeaves (contents frag_cmp t.splits) t.count };
 }
 
 impl FragTree {

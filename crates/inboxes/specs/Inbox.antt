@@ -4,9 +4,9 @@ use Rattle.std.specs.List.{find}
 use Rattle.mds_types.specs.declared.requests.Request.{Request}
 
 -- the front is taken
-abbrev pub Takes : List Request → List Request → Option Request → Type 0
-Takes old new None = (old ≡ []) × (new ≡ [])
-Takes old new (Some request) = old ≡ request ∷ new
+abbrev pub TakesFront : List Request → List Request → Option Request → Type 0
+TakesFront old new None = (old ≡ []) × (new ≡ [])
+TakesFront old new (Some request) = old ≡ request ∷ new
 
 -- the front has gone behind all others
 abbrev pub rotated : List Request → List Request

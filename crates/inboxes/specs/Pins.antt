@@ -10,20 +10,20 @@ abbrev pub is_on : Ino → Fragment → Pin → Bool
 is_on dir frag pin = (pin.dir.0 == dir.0) && ((pin.frag.value == frag.value) && (pin.frag.bits == frag.bits))
 
 -- whether a pin is one of some fragment of a directory
-abbrev pub is_in : Ino → Pin → Bool
-is_in dir pin = pin.dir.0 == dir.0
+abbrev pub is_grant_in : Ino → Pin → Bool
+is_grant_in dir pin = pin.dir.0 == dir.0
 
 -- whether a pin is one for this client and transaction number
 abbrev pub is_for : (client tid : ℕ) → Pin → Bool
 is_for client tid pin = (pin.client == client) && (pin.tid == tid)
 
 -- whether a pin is this one
-abbrev pub is_pin : Pin → Pin → Bool
-is_pin one pin = is_on one.dir one.frag pin && is_for one.client one.tid pin
+abbrev pub is_same_grant : Pin → Pin → Bool
+is_same_grant one pin = is_on one.dir one.frag pin && is_for one.client one.tid pin
 
 -- with a pin; one that stands stays as it is
-abbrev pub with_pin : List Pin → Pin → List Pin
-with_pin pins pin = if list_any (is_pin pin) pins then pins else pins ++ pin ∷ []
+abbrev pub with_grant : List Pin → Pin → List Pin
+with_grant pins pin = if list_any (is_same_grant pin) pins then pins else pins ++ pin ∷ []
 
 -- the pins left where those of which a test holds end
 abbrev pub left_without : (Pin → Bool) → List Pin → List Pin

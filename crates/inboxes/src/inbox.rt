@@ -1,7 +1,7 @@
 //! The requests that wait at one rank.
 ghost use Rattle.std.specs.Prelude.{◌≡◌, ◌<◌, ◌≤◌, ◌++◌, ◌∷◌, [], length, nat_lt, slice_get, IfOk};
 ghost use Rattle.std.specs.Option.{option_copied};
-ghost use Rattle.inboxes.specs.Inbox.{Takes, first_of, rotated};
+ghost use Rattle.inboxes.specs.Inbox.{TakesFront, first_of, rotated};
 
 use mds_types::Request;
 use std::alloc::{AllocError, Global};
@@ -82,7 +82,7 @@ impl Inbox {
     /// Takes the request at the front out.
     #[inline(always)]
     pub fn take(&mut self) -> Option<Request>
-        ensures { Takes self.old self.new result }
+        ensures { TakesFront self.old self.new result }
     {
         self.waiting.pop_front()
     }

@@ -1,7 +1,7 @@
 //! Pins: the grants by which a rank lets another one change its fragments for one request.
 ghost use Rattle.std.specs.Prelude.{◌≡◌, ◌≢◌, [], false, IfOk, OnOk, OnErr};
 ghost use Rattle.std.specs.List.{list_any};
-ghost use Rattle.inboxes.specs.Pins.{is_for, is_in, is_on, is_pin, left_without, with_pin};
+ghost use Rattle.inboxes.specs.Pins.{is_for, is_grant_in, is_on, is_same_grant, left_without, with_grant};
 
 use mds_types::{Frag, Ino};
 use std::alloc::{AllocError, Global};
@@ -57,8 +57,8 @@ impl Pins {
 
     /// Sets a pin; one that stands stays as it is, and takes no memory.
     pub fn pin(&mut self, pin: Pin) -> Result<(), AllocError>
-        ensures ok { OnOk result (self.new ≡ with_pin self.old pin) }
-        ensures err { OnErr result ((list_any (is_pin pin) self.old ≡ false) × (self.new ≡ self.old)) }
+        ensures ok { OnOk result (self.new ≡ with_grant self.old pin) }
+        ensures err { OnErr result ((list_any (is_same_grant pin) self.old ≡ false) × (self.new ≡ self.old)) }
     {
         if self.is_granted(&pin) {
             return Ok(());
@@ -87,7 +87,7 @@ impl Pins {
 
     /// Whether this very pin stands.
     pub fn is_granted(&self, pin: &Pin) -> bool
-        ensures { result ≡ list_any (is_pin pin.now) self.now }
+        ensures { result ≡ list_any (is_same_grant pin.now) self.now }
     {
         self.pins.contains(pin)
     }
@@ -110,7 +110,7 @@ impl Pins {
 
     /// Ends the pins on all fragments of a directory, as one that is removed.
     pub fn forget_directory(&mut self, dir: Ino)
-        ensures { self.new ≡ left_without (is_in dir) self.old }
+        ensures { self.new ≡ left_without (is_grant_in dir) self.old }
     {
         self.pins.retain(|pin| !(pin.dir == dir));
     }

@@ -8,7 +8,7 @@ use Rattle.std.proofs.lemmas.Bool.{eqb-true, or_cases}
 use Rattle.std.proofs.lemmas.Bool.Decides.{nat_tests}
 use Rattle.sorted_map.proofs.NatKeys.{is_same, same_or_apart, get_put, get_beside, get_removed, get_left, after_removal}
 use Rattle.inode_table.specs.declared.dirs.Home.{Home}
-use Rattle.inode_table.specs.Dirs.{Homes, IsAbove, parent, further, Reaches, IsRooted, MayCome, MayMove, IsChildless, is_known}
+use Rattle.inode_table.specs.Dirs.{Homes, IsAncestor, parent, further, Reaches, IsRooted, MayCome, MayMove, IsChildless, is_known}
 
 pub some_of : {A : Type 0} (o : Option A) → is_some o ≡ true → (a : A) × (o ≡ Some a)
 some_of None some = cc
@@ -46,7 +46,7 @@ empty_rooted = record {
 
 -- a directory gets a home that is not below it
 placed_rooted : (homes : Homes) (d : ℕ) (home : Home) → IsRooted homes → (d ≡ 1 → ⊥) → is_known homes home.parent.0 ≡ true → (home.parent.0 ≡ d → ⊥)
-    → (IsAbove homes d home.parent.0 → ⊥) → IsRooted (map.insert homes d home)
+    → (IsAncestor homes d home.parent.0 → ⊥) → IsRooted (map.insert homes d home)
 placed_rooted homes d home rooted below known other not_below = record {
   rootless = get_beside homes d home 1 (λ same. below (sym same)) ∙ rooted.rootless;
   rooted = λ x h is. ⊎_elim (moved x) (λ apart. let before = rooted.rooted x h (sym (get_beside homes d home x apart) ∙ is) in still before.0 x before.1) (same_or_apart x d);
@@ -56,7 +56,7 @@ placed_rooted homes d home rooted below known other not_below = record {
     new = map.insert homes d home
 
     Good : ℕ → Type 0
-    Good x = (x ≡ d → ⊥) × (IsAbove homes d x → ⊥)
+    Good x = (x ≡ d → ⊥) × (IsAncestor homes d x → ⊥)
 
     up : (n : ℕ) × Reaches new n home.parent.0
     up =
@@ -83,7 +83,7 @@ adopted_rooted homes d home rooted may =
     unknown zero x root same = may.other (sym same ∙ root)
     unknown (suc n) x (h, is, reaches) same = let clash : None ≡ Some h = sym may.fresh ∙ ap (λ k. map.get homes k) (sym same) ∙ is in cc
 
-    never : (x : ℕ) → IsAbove homes d x → ⊥
+    never : (x : ℕ) → IsAncestor homes d x → ⊥
     never x (parent _ h is same) = let up = rooted.rooted x h is in let shorter = parent_reaches homes up.0 x h rooted.rootless is up.1 in unknown shorter.0 h.parent.0 shorter.2 same
     never x (further _ h is above) = never h.parent.0 above
 
@@ -161,12 +161,12 @@ nearer homes x home rooted is =
     omega (arith, climbed_is (map.len homes) homes up.0 x rooted.rootless up.1 few, rest.1, there)
 
 -- where a directory isn't the parent of x, it is above x exactly if it is above the parent of x
-pub above_parent : (homes : Homes) (d x : ℕ) (home : Home) → map.get homes x ≡ Some home → (home.parent.0 ≡ d → ⊥) → IsAbove homes d x ↔ IsAbove homes d home.parent.0
+pub above_parent : (homes : Homes) (d x : ℕ) (home : Home) → map.get homes x ≡ Some home → (home.parent.0 ≡ d → ⊥) → IsAncestor homes d x ↔ IsAncestor homes d home.parent.0
 above_parent homes d x home is apart = (down, λ above. further x home is above)
   where
-    down : IsAbove homes d x → IsAbove homes d home.parent.0
+    down : IsAncestor homes d x → IsAncestor homes d home.parent.0
     down (parent x h stands same) = let alike : h ≡ home = cc in absurd (apart (sym (ap (λ (j : Home). j.parent.0) alike) ∙ same))
-    down (further x h stands above) = let alike : h ≡ home = cc in subst (λ (j : Home). IsAbove homes d j.parent.0) alike above
+    down (further x h stands above) = let alike : h ≡ home = cc in subst (λ (j : Home). IsAncestor homes d j.parent.0) alike above
 
 -- what a comparison of numbers told
 pub are_same : (a b : ℕ) → true ≡ (a == b) → a ≡ b

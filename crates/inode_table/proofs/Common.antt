@@ -1,11 +1,11 @@
 -- Names of other crates, and of this one's definitions, as the proofs of this crate take them.
 pub use Rattle.fragtree.specs.FragTree.{CanSplit, IsPick, IsSplit, IsTree}
-pub use Rattle.inode_table.specs.Dirs.{Counts, DirPins, Homes, IsAbove, IsTable, Table, count_of, is_known, leaves_of, one_more, or_whole, or_zero, parent, pinned_at}
+pub use Rattle.inode_table.specs.Dirs.{Counts, DirPins, Homes, IsAncestor, IsTable, DirTable, count_of, is_known, leaves_of, one_more, or_whole, or_zero, parent, pinned_at}
 pub use Rattle.inode_table.specs.Order.{dirs_after, trees_after}
 pub use Rattle.inode_table.specs.Pinned.{IsAfter, IsFirstPinned, IsNextPinned}
-pub use Rattle.inode_table.specs.Rows.{Rows, counts_of, covers_of, homes_of, leaves_in, or_first, pin_in, pins_of}
+pub use Rattle.inode_table.specs.Rows.{DirRows, counts_with_root, covers_of, homes_of, leaves_of_row, or_first, pin_in, pins_of}
 pub use Rattle.inode_table.specs.Settings.{LeavesAndPin}
-pub use Rattle.inode_table.specs.TreeTable.{IsCounted, IsTabled, with_pin}
+pub use Rattle.inode_table.specs.TreeTable.{IsCounted, IsTabled, with_dir_pin}
 pub use Rattle.inode_table.specs.declared.dirs.Directory.{Directory}
 pub use Rattle.mds_types.proofs.CountLaws.{entries_go, none_in_empty, some_in}
 pub use Rattle.mds_types.proofs.DirectoryLaws.{one_dentry}
@@ -23,7 +23,7 @@ pub use Rattle.sorted_map.proofs.Bools.{left_of, right_of}
 pub use Rattle.sorted_map.proofs.ContentLaws.{first_taken, len_shown, retained}
 pub use Rattle.sorted_map.proofs.MapLaws.{contents-entries, tie}
 pub use Rattle.sorted_map.proofs.NatKeys.{get_beside, get_put}
-pub use Rattle.sorted_map.specs.SortedMap.{contents, shown}
+pub use Rattle.sorted_map.specs.SortedMap.{contents, shown_with_room}
 pub use Rattle.std.proofs.Common.{Err, List, None, Ok, OnErr, OnOk, Option, Result, Some, T, [], ap, arith, cond, false, inl, inr, is_some, length, option_map, refl, rules, subst, subst₂, sym, true, ℕ, ⊎_elim, ◌+◌, ◌-◌, ◌<◌, ◌^◌, ◌↔◌, ◌∙◌, ◌∷◌, ◌≡◌, ◌≤◌, ◌⊎◌}
 pub use Rattle.std.proofs.lemmas.Bool.{not-true}
 pub use Rattle.std.proofs.lemmas.Cmp.{ranked}

@@ -1,5 +1,5 @@
 -- Entries that are counted one by one, and their pins.
-use Rattle.inode_table.proofs.Common.{Counts, Dentry, DirPins, Homes, Inode, IsCounted, IsTabled, List, None, Rank, Some, T, Tree, [], ap, arith, cond, count_of, dentry-exact, dentry-total, dentry_cmp, entries_go, entries_sorted, find, first_taken, get-empty, get-from_sorted, get_left, inl, inr, is_dir_kind, is_eq, is_in, is_known, is_some, is_sorted, len-entries, len_shown, length, none_in_empty, one_dentry, one_more, refl, retained, some_in, stands_after_removal, subst, sym, tied_itself, true, where_key, with_pin, ℕ, ⊎_elim, ◌+◌, ◌-◌, ◌<◌, ◌^◌, ◌∙◌, ◌∷◌, ◌≡◌, ◌≤◌, ◌⊎◌}
+use Rattle.inode_table.proofs.Common.{Counts, Dentry, DirPins, Homes, Inode, IsCounted, IsTabled, List, None, Rank, Some, T, Tree, [], ap, arith, cond, count_of, dentry-exact, dentry-total, dentry_cmp, entries_go, entries_sorted, find, first_taken, get-empty, get-from_sorted, get_left, inl, inr, is_dir_kind, is_eq, is_in, is_known, is_some, is_sorted, len-entries, len_shown, length, none_in_empty, one_dentry, one_more, refl, retained, some_in, stands_after_removal, subst, sym, tied_itself, true, where_key, with_dir_pin, ℕ, ⊎_elim, ◌+◌, ◌-◌, ◌<◌, ◌^◌, ◌∙◌, ◌∷◌, ◌≡◌, ◌≤◌, ◌⊎◌}
 use Rattle.std.specs.FinMap as map
 use Rattle.std.specs.Prelude.{not}
 use Rattle.sorted_map.proofs.ContentLaws.{empty_shown}
@@ -97,14 +97,14 @@ module _ (tree : Tree) (homes : Homes) (tabled : IsTabled tree homes) (left more
       grind (arith, to.each d, now, count_set counts e.0.dir.0 (count_of counts e.0.dir.0 + 1) d, some_in (rest_of (e ∷ more)) e.0 e.1 in_rest)
 
   -- the next one is counted
-  pub counted_next : IsCountedTo tree more (one_more counts e.0.dir.0) (with_pin pins e.1)
+  pub counted_next : IsCountedTo tree more (one_more counts e.0.dir.0) (with_dir_pin pins e.1)
   counted_next = record {
     sorted = taken.0;
     each = one_counted;
     within = λ q x is. to.within q x (stands_after_removal (rest_of (e ∷ more)) e.0 q x (ap (λ (t : Tree). map.get t q) (sym taken.1) ∙ is)).1;
     listed = λ q x stands kinded.
         ⊎_elim
-        (λ same. inr (subst (λ (i : Inode). is_dir_kind i.kind ≡ true → map.get (with_pin pins e.1) i.ino.0 ≡ i.pin) (one_inode tree e.0 q e.1 x (sym same) in_tree stands) (pin_here pins e.1) kinded))
+        (λ same. inr (subst (λ (i : Inode). is_dir_kind i.kind ≡ true → map.get (with_dir_pin pins e.1) i.ino.0 ≡ i.pin) (one_inode tree e.0 q e.1 x (sym same) in_tree stands) (pin_here pins e.1) kinded))
         (λ apart.
         ⊎_elim (λ rest. inl (ap (λ (t : Tree). map.get t q) taken.1 ∙ get_left (rest_of (e ∷ more)) e.0 q apart ∙ rest))
         (λ pinned. inr (pin_differ pins e.1 x.ino.0 (λ k same. apart (one_dentry tree tabled.whole q e.0 x e.1 stands in_tree same)) ∙ pinned)) (to.listed q x stands kinded))

@@ -10,7 +10,7 @@ use Rattle.mds_types.specs.Step.{IsMove, with_moved}
 use Rattle.mds_types.proofs.EntryLaws.{stands_after_removal}
 use Rattle.inode_table.specs.Dirs.{Counts, DirPins, Homes, one_less, one_more}
 use Rattle.inode_table.specs.TreeChanges.{MayAdd, MaySet, MayRemove}
-use Rattle.inode_table.specs.TreeTable.{HoldsCounts, IsCounted, IsTabled, counts_moved, with_count, with_pin, without_row}
+use Rattle.inode_table.specs.TreeTable.{HoldsCounts, IsCounted, IsTabled, counts_moved, with_count, with_dir_pin, without_row}
 use Rattle.inode_table.proofs.CountedLaws.{comes, empty_counted, goes, moved_counts, new_is_empty, set, with_none, without_none}
 use Rattle.inode_table.proofs.HeldRows.{one_inode}
 use Rattle.inode_table.proofs.MoveLaws.{replaced_empty}
@@ -48,7 +48,7 @@ module _ (tree : Tree) (homes : Homes) (tabled : IsTabled tree homes) (counts : 
   }
 
   -- one is altered,
-  pub set_counted : (dentry : Dentry) (inode : Inode) → MaySet tree dentry inode → IsCounted (map.insert tree dentry inode) counts (with_pin pins inode)
+  pub set_counted : (dentry : Dentry) (inode : Inode) → MaySet tree dentry inode → IsCounted (map.insert tree dentry inode) counts (with_dir_pin pins inode)
   set_counted dentry inode may = record { each = set tree counts counted.each dentry may.before inode may.stands; pinned = set_pins tree pins dentry inode tabled.whole counted.pinned may }
 
   -- an entry goes,

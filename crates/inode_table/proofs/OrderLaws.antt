@@ -18,7 +18,7 @@ use Rattle.inode_table.specs.declared.dirs.Directory.{Directory}
 use Rattle.inode_table.specs.declared.dirs.Home.{Home}
 use Rattle.inode_table.specs.Dirs.{Homes, is_known}
 use Rattle.inode_table.specs.Order.{dirs_after}
-use Rattle.inode_table.specs.Rows.{Rows, homes_of}
+use Rattle.inode_table.specs.Rows.{DirRows, homes_of}
 use Rattle.inode_table.proofs.RowLaws.{row_numbers}
 
 abbrev number_in : Option (ℕ × Directory) → Option ℕ
@@ -36,7 +36,7 @@ numbers_after d (e ∷ es) =
       | false ↦ numbers_after d es
     ]
 
-module _ (rows : Rows) (d : Ino) where
+module _ (rows : DirRows) (d : Ino) where
   -- the first number of all rows comes after the root's
   pub after_root : (row : Option (ℕ × Directory)) → true ≡ (d.0 == 1) → row ≡ first_pair rows → number_in row ≡ slice_get (dirs_after (homes_of rows) (Some d)) 0
   after_root row root is =

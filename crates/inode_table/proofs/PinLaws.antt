@@ -13,7 +13,7 @@ use Rattle.mds_types.proofs.MovedLaws.{may_move}
 use Rattle.sorted_map.proofs.NatKeys.{get_put as get_put_pin, get_beside as get_beside_pin, get_left as get_left_pin, get_removed}
 use Rattle.inode_table.specs.Dirs.{DirPins, pinned_at}
 use Rattle.inode_table.specs.TreeChanges.{MayAdd, MaySet, MayRemove}
-use Rattle.inode_table.specs.TreeTable.{HoldsPins, with_pin, without_row}
+use Rattle.inode_table.specs.TreeTable.{HoldsPins, with_dir_pin, without_row}
 use Rattle.inode_table.proofs.HeldRows.{Differ, Holds, dir_differ, dir_here, moved_held, none_unused, put_held, removed_held}
 use Rattle.inode_table.proofs.TableLaws.{alike_before}
 
@@ -30,10 +30,10 @@ module _ (pins : DirPins) (k : ℕ) where
 
 -- the pins with that of an inode have that of a directory, and each other as before
 module _ (pins : DirPins) (inode : Inode) where
-  pub pin_here : is_dir_kind inode.kind ≡ true → map.get (with_pin pins inode) inode.ino.0 ≡ inode.pin
+  pub pin_here : is_dir_kind inode.kind ≡ true → map.get (with_dir_pin pins inode) inode.ino.0 ≡ inode.pin
   pin_here kinded = dir_here pins _ inode _ (pinned_here pins inode.ino.0 inode.pin) kinded
 
-  pub pin_differ : Differ pins (with_pin pins inode) inode
+  pub pin_differ : Differ pins (with_dir_pin pins inode) inode
   pin_differ = dir_differ pins _ inode (pinned_beside pins inode.ino.0 inode.pin)
 
 -- the pins of a tree's directories are rows that hold them
@@ -61,7 +61,7 @@ added_pins tree pins dentry inode whole holds may =
     (λ q x apart stands. may.unused.not_there q.dir.0 q.name x stands) (λ x stands. let clash : None ≡ Some x = sym may.free ∙ stands in absurd cc))
 
 -- an inode is altered: a directory gets its pin
-pub set_pins : (tree : Tree) (pins : DirPins) (dentry : Dentry) (inode : Inode) → IsWellFormed tree → HoldsPins tree pins → MaySet tree dentry inode → HoldsPins (map.insert tree dentry inode) (with_pin pins inode)
+pub set_pins : (tree : Tree) (pins : DirPins) (dentry : Dentry) (inode : Inode) → IsWellFormed tree → HoldsPins tree pins → MaySet tree dentry inode → HoldsPins (map.insert tree dentry inode) (with_dir_pin pins inode)
 set_pins tree pins dentry inode whole holds may =
     held_pins _ _ (put_held pin_value tree pins whole (pins_held tree pins holds) _ dentry inode (pin_differ pins inode) (pin_here pins inode)
     (λ q x apart stands same. apart (one_dentry tree whole q dentry x may.before stands may.stands (same ∙ ap (λ (n : _). n.0) may.number))) (alike_before tree dentry inode may))

@@ -1,5 +1,5 @@
 -- The first row with a pin, of rows in order.
-use Rattle.inode_table.proofs.Common.{Directory, Ino, IsAfter, IsFirstPinned, IsNextPinned, IsSome, Less, Rank, Rows, ap, arith, below_all, entries_sorted, eq_by_cmp, find, find-where_key, get-entries, is_eq, is_lt, is_sorted, is_sorted-where_key, left_of, nat_cmp, nat_cmp-IsAntisymmetric, nat_cmp_total, pin_in, pins_of, ranked, right_of, subst, sym, tie, tied_itself, where_key, ◌∙◌}
+use Rattle.inode_table.proofs.Common.{Directory, Ino, IsAfter, IsFirstPinned, IsNextPinned, IsSome, Less, Rank, DirRows, ap, arith, below_all, entries_sorted, eq_by_cmp, find, find-where_key, get-entries, is_eq, is_lt, is_sorted, is_sorted-where_key, left_of, nat_cmp, nat_cmp-IsAntisymmetric, nat_cmp_total, pin_in, pins_of, ranked, right_of, subst, sym, tie, tied_itself, where_key, ◌∙◌}
 use Rattle.std.specs.Prelude.{◌≡◌, ℕ, ◌<◌, ◌≤◌, Bool, true, false, cond, T, List, [], ◌∷◌, Option, Some, None, is_some, refl}
 use Rattle.std.specs.FinMap as map
 use Rattle.std.specs.Cmp.{nat_cmp_is}
@@ -70,7 +70,7 @@ is_behind : (after : Option Ino) (d : ℕ) → is_after after d ≡ true → IsA
 is_behind None d is = tt
 is_behind (Some last) d is = under last.0 d (less_of _ (subst T (sym is) tt))
 
-module _ (rows : Rows) (after : Option Ino) (left : List (ℕ × Directory)) (is : left ≡ where_key nat_cmp (is_after after) (map.entries rows)) where
+module _ (rows : DirRows) (after : Option Ino) (left : List (ℕ × Directory)) (is : left ≡ where_key nat_cmp (is_after after) (map.entries rows)) where
   pub left_sorted : T (is_sorted nat_cmp left)
   left_sorted = subst (λ es. T (is_sorted nat_cmp es)) (sym is) (is_sorted-where_key nat_cmp (is_after after) (map.entries rows) (entries_sorted rows))
 

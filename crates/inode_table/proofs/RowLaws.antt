@@ -12,7 +12,7 @@ use Rattle.sorted_map.proofs.NatKeys.{is_same, is_apart, get_put, get_beside}
 use Rattle.inode_table.specs.declared.dirs.Home.{Home}
 use Rattle.inode_table.specs.declared.dirs.Directory.{Directory}
 use Rattle.inode_table.specs.Dirs.{IsLeafAt, is_known, leaves_of, or_whole}
-use Rattle.inode_table.specs.Rows.{Rows, leaves_in, homes_of, covers_below, covers_of}
+use Rattle.inode_table.specs.Rows.{DirRows, leaves_of_row, homes_of, covers_below, covers_of}
 
 module _ {V X : Type 0} (f : V → X) where
   -- the pairs with something of each value in its place
@@ -47,18 +47,18 @@ numbers_taken : (es : List (ℕ × Directory)) → list_map (λ e. e.0) (taken (
 numbers_taken [] = refl
 numbers_taken (e ∷ es) = ap (λ ks. e.0 ∷ ks) (numbers_taken es)
 
-pub row_numbers : (rows : Rows) → map.keys (homes_of rows) ≡ list_map (λ e. e.0) (map.entries rows)
+pub row_numbers : (rows : DirRows) → map.keys (homes_of rows) ≡ list_map (λ e. e.0) (map.entries rows)
 unfolding homes_of
 row_numbers rows =
     ap (list_map (λ e. e.0)) (entries-from_sorted nat_cmp _ (subst T (sym (sorted_taken (λ (r : Directory). r.home) (map.entries rows))) (entries_sorted rows)))
     ∙ numbers_taken (map.entries rows)
 
-pub get_home : (rows : Rows) (d : ℕ) → map.get (homes_of rows) d ≡ home_in (map.get rows d)
+pub get_home : (rows : DirRows) (d : ℕ) → map.get (homes_of rows) d ≡ home_in (map.get rows d)
 unfolding homes_of
 get_home rows d = get_taken (λ (r : Directory). r.home) rows d
 
 -- a number without a home has no row
-pub no_row : (rows : Rows) (d : ℕ) → map.get (homes_of rows) d ≡ None → map.get rows d ≡ None
+pub no_row : (rows : DirRows) (d : ℕ) → map.get (homes_of rows) d ≡ None → map.get rows d ≡ None
 no_row rows d none = go (map.get rows d) (sym (get_home rows d) ∙ none)
   where
     go : (row : Option Directory) → home_in row ≡ None → row ≡ None
@@ -75,29 +75,29 @@ module _ {X : Type 0} (part : Option Directory → Option X) (nowhere : part Non
   part_kept_in None (Some x) is = let clash : None ≡ Some x = sym nowhere ∙ is in cc
   part_kept_in (Some row) (Some x) is = ap (λ o. Some (or_any o)) is ∙ ap Some (of_some x)
 
-  pub get_part : (rows : Rows) (d : ℕ) → map.get {R = nat_cmp} (map.from_sorted (taken in_row (map.entries (map.retain_keys rows (λ k. is_some (part (map.get rows k))))))) d ≡ part (map.get rows d)
+  pub get_part : (rows : DirRows) (d : ℕ) → map.get {R = nat_cmp} (map.from_sorted (taken in_row (map.entries (map.retain_keys rows (λ k. is_some (part (map.get rows k))))))) d ≡ part (map.get rows d)
   get_part rows d =
       let has : ℕ → Bool = λ k. is_some (part (map.get rows k)) in
       get_taken in_row (map.retain_keys rows has) d ∙ ap (option_map in_row) (get-retain_keys rows has d (λ x tied. ap has (sym (nat_cmp-IsAntisymmetric d x tied)))) ∙ part_kept_in (map.get rows d) _ refl
 
-get_below : (rows : Rows) (d : ℕ) → map.get (covers_below rows) d ≡ leaves_in (map.get rows d)
+get_below : (rows : DirRows) (d : ℕ) → map.get (covers_below rows) d ≡ leaves_of_row (map.get rows d)
 unfolding covers_below
-get_below rows d = get_part leaves_in refl or_whole (λ x. refl) rows d
+get_below rows d = get_part leaves_of_row refl or_whole (λ x. refl) rows d
 
 -- the leaves of the root, and those of another directory
-pub get_root : (root : Option (List Fragment)) (rows : Rows) → map.get (homes_of rows) 1 ≡ None → map.get (covers_of root rows) 1 ≡ root
-get_root None rows rootless = get_below rows 1 ∙ ap leaves_in (no_row rows 1 rootless)
+pub get_root : (root : Option (List Fragment)) (rows : DirRows) → map.get (homes_of rows) 1 ≡ None → map.get (covers_of root rows) 1 ≡ root
+get_root None rows rootless = get_below rows 1 ∙ ap leaves_of_row (no_row rows 1 rootless)
 get_root (Some leaves) rows rootless = get_put (covers_below rows) 1 leaves
 
-pub get_leaves : (root : Option (List Fragment)) (rows : Rows) (d : ℕ) → (d ≡ 1 → ⊥) → map.get (covers_of root rows) d ≡ leaves_in (map.get rows d)
+pub get_leaves : (root : Option (List Fragment)) (rows : DirRows) (d : ℕ) → (d ≡ 1 → ⊥) → map.get (covers_of root rows) d ≡ leaves_of_row (map.get rows d)
 get_leaves None rows d other = get_below rows d
 get_leaves (Some leaves) rows d other = get_beside (covers_below rows) 1 leaves d other ∙ get_below rows d
 
 -- those of a row that was taken out
-pub row_left : (rows : Rows) (d : ℕ) → leaves_in (option_map (λ (r : ℕ × Directory). r.1) (option_map (λ v. (d, v)) (map.get rows d))) ≡ leaves_in (map.get rows d)
+pub row_left : (rows : DirRows) (d : ℕ) → leaves_of_row (option_map (λ (r : ℕ × Directory). r.1) (option_map (λ v. (d, v)) (map.get rows d))) ≡ leaves_of_row (map.get rows d)
 row_left rows d = go (map.get rows d)
   where
-    go : (o : Option Directory) → leaves_in (option_map (λ (r : ℕ × Directory). r.1) (option_map (λ v. (d, v)) o)) ≡ leaves_in o
+    go : (o : Option Directory) → leaves_of_row (option_map (λ (r : ℕ × Directory). r.1) (option_map (λ v. (d, v)) o)) ≡ leaves_of_row o
     go None = refl
     go (Some row) = refl
 
@@ -120,12 +120,12 @@ module _ {X : Type 0} (m : map.FinMap nat_cmp X) (k : ℕ) (a : X) where
   pub put_and_gone : (j : ℕ) → (j ≡ k → ⊥) → map.insert (map.remove m j) k a ≡ map.remove (map.insert m k a) j
   put_and_gone j other = same _ _ (λ q. let apart = apart_from j q other in grind (arith, gets, apart))
 
-module _ {X : Type 0} (parts : Rows → map.FinMap nat_cmp X) (part : Option Directory → Option X) (told : (rows : Rows) (d : ℕ) → map.get (parts rows) d ≡ part (map.get rows d)) where
+module _ {X : Type 0} (parts : DirRows → map.FinMap nat_cmp X) (part : Option Directory → Option X) (told : (rows : DirRows) (d : ℕ) → map.get (parts rows) d ≡ part (map.get rows d)) where
   -- where no rows are there is none
   pub part_none : part None ≡ None → parts map.empty ≡ map.empty
   part_none none = same _ _ (λ q. grind (arith, gets, told, none))
 
-  module _ (rows : Rows) (d : ℕ) where
+  module _ (rows : DirRows) (d : ℕ) where
     -- a row is put that has it,
     pub part_put : (row : Directory) (x : X) → part (Some row) ≡ Some x → parts (map.insert rows d row) ≡ map.insert (parts rows) d x
     part_put row x has = same _ _ (λ q. let then = told (map.insert rows d row) q in let now = told rows q in grind (arith, get-insert, nat_cmp_total, then, now, has))
@@ -149,14 +149,14 @@ pub no_homes : homes_of map.empty ≡ map.empty
 no_homes = part_none homes_of home_in get_home refl
 
 pub no_leaves : covers_of None map.empty ≡ map.empty
-no_leaves = part_none covers_below leaves_in get_below refl
+no_leaves = part_none covers_below leaves_of_row get_below refl
 
 -- the root gets other leaves
-pub root_put : (root : Option (List Fragment)) (rows : Rows) (leaves : List Fragment) → covers_of (Some leaves) rows ≡ map.insert (covers_of root rows) 1 leaves
+pub root_put : (root : Option (List Fragment)) (rows : DirRows) (leaves : List Fragment) → covers_of (Some leaves) rows ≡ map.insert (covers_of root rows) 1 leaves
 root_put None rows leaves = refl
 root_put (Some its) rows leaves = put_again (covers_below rows) 1 its leaves
 
-module _ (rows : Rows) (d : ℕ) where
+module _ (rows : DirRows) (d : ℕ) where
   -- a row is put: its home is put; one that keeps its home keeps all homes
   pub homes_put : (row : Directory) → homes_of (map.insert rows d row) ≡ map.insert (homes_of rows) d row.home
   homes_put row = part_put homes_of home_in get_home rows d row row.home refl
@@ -168,21 +168,21 @@ module _ (rows : Rows) (d : ℕ) where
   homes_left = part_left homes_of home_in get_home rows d refl
 
   -- a row that keeps its leaves keeps all leaves
-  pub leaves_kept : (root : Option (List Fragment)) (row : Directory) → row.settings.leaves ≡ leaves_in (map.get rows d) → covers_of root (map.insert rows d row) ≡ covers_of root rows
-  leaves_kept None row kept = part_kept covers_below leaves_in get_below rows d row kept
-  leaves_kept (Some its) row kept = ap (λ m. map.insert m 1 its) (part_kept covers_below leaves_in get_below rows d row kept)
+  pub leaves_kept : (root : Option (List Fragment)) (row : Directory) → row.settings.leaves ≡ leaves_of_row (map.get rows d) → covers_of root (map.insert rows d row) ≡ covers_of root rows
+  leaves_kept None row kept = part_kept covers_below leaves_of_row get_below rows d row kept
+  leaves_kept (Some its) row kept = ap (λ m. map.insert m 1 its) (part_kept covers_below leaves_of_row get_below rows d row kept)
 
   -- a row gets other leaves
   pub leaves_put : (root : Option (List Fragment)) (row : Directory) (leaves : List Fragment) → (d ≡ 1 → ⊥) → row.settings.leaves ≡ Some leaves → covers_of root (map.insert rows d row) ≡ map.insert (covers_of root rows) d leaves
-  leaves_put None row leaves other has = part_put covers_below leaves_in get_below rows d row leaves has
-  leaves_put (Some its) row leaves other has = ap (λ m. map.insert m 1 its) (part_put covers_below leaves_in get_below rows d row leaves has) ∙ put_both (covers_below rows) 1 its d leaves other
+  leaves_put None row leaves other has = part_put covers_below leaves_of_row get_below rows d row leaves has
+  leaves_put (Some its) row leaves other has = ap (λ m. map.insert m 1 its) (part_put covers_below leaves_of_row get_below rows d row leaves has) ∙ put_both (covers_below rows) 1 its d leaves other
 
   -- a row goes, and its leaves
   pub leaves_left : (root : Option (List Fragment)) → (d ≡ 1 → ⊥) → covers_of root (map.remove rows d) ≡ map.remove (covers_of root rows) d
-  leaves_left None other = part_left covers_below leaves_in get_below rows d refl
-  leaves_left (Some its) other = ap (λ m. map.insert m 1 its) (part_left covers_below leaves_in get_below rows d refl) ∙ put_and_gone (covers_below rows) 1 its d other
+  leaves_left None other = part_left covers_below leaves_of_row get_below rows d refl
+  leaves_left (Some its) other = ap (λ m. map.insert m 1 its) (part_left covers_below leaves_of_row get_below rows d refl) ∙ put_and_gone (covers_below rows) 1 its d other
 
-module _ (root : Option (List Fragment)) (rows : Rows) (d : ℕ) where
+module _ (root : Option (List Fragment)) (rows : DirRows) (d : ℕ) where
   -- a directory with a home has a row
   pub has_row : map.get rows d ≡ None → is_some (map.get (homes_of rows) d) ≡ true → ⊥
   has_row none some = let clash : false ≡ true = sym (ap is_some (get_home rows d ∙ ap home_in none)) ∙ some in cc
@@ -214,7 +214,7 @@ module _ (root : Option (List Fragment)) (rows : Rows) (d : ℕ) where
     pub at_row : (row : Directory) → (d ≡ 1 → ⊥) → map.get rows d ≡ Some row → IsPick (or_whole row.settings.leaves) hash leaf → IsLeafAt (homes_of rows) (covers_of root rows) d hash leaf (Some row.home)
     at_row row other is pick = record {
       known = sym (known_row other) ∙ ap is_some is;
-      pick = subst (λ o. IsPick (or_whole o) hash leaf) (sym (get_leaves root rows d other ∙ ap leaves_in is)) pick;
+      pick = subst (λ o. IsPick (or_whole o) hash leaf) (sym (get_leaves root rows d other ∙ ap leaves_of_row is)) pick;
       home = sym (get_home rows d ∙ ap home_in is);
     }
 
@@ -223,4 +223,4 @@ module _ (root : Option (List Fragment)) (rows : Rows) (d : ℕ) where
 
   -- a new row has the one leaf `*`
   pub new_leaves : (row : Directory) → (d ≡ 1 → ⊥) → row.settings.leaves ≡ None → leaves_of (covers_of root (map.insert rows d row)) d ≡ root_fragment ∷ []
-  new_leaves row other none = ap or_whole (get_leaves root (map.insert rows d row) d other ∙ ap leaves_in (get_put rows d row) ∙ none)
+  new_leaves row other none = ap or_whole (get_leaves root (map.insert rows d row) d other ∙ ap leaves_of_row (get_put rows d row) ∙ none)

@@ -15,7 +15,7 @@ use Rattle.mds_types.proofs.WellFormedLaws.{well-formed-grown}
 use Rattle.mds_types.proofs.DirectoryLaws.{StandsAs, directory_stands, root_stands, entry_stands, no_directory, one_dentry, nothing_in_empty, nothing_in_file}
 use Rattle.sorted_map.proofs.NatKeys.{is_same, get_put as get_put_home, get_beside as get_beside_home, get_removed as get_removed_home}
 use Rattle.inode_table.specs.declared.dirs.Home.{Home}
-use Rattle.inode_table.specs.Dirs.{Homes, Covers, or_whole, leaves_of, is_known, IsAbove, parent, further, MayCome, IsChildless, MayGo}
+use Rattle.inode_table.specs.Dirs.{Homes, Covers, or_whole, leaves_of, is_known, IsAncestor, parent, further, MayCome, IsChildless, MayGo}
 use Rattle.inode_table.proofs.Chains.{some_of}
 use Rattle.inode_table.proofs.HeldRows.{Differ, Holds, Spares, dir_differ, dir_here, left_beside, none_unused, one_inode, put_held, removed_held}
 use Rattle.inode_table.specs.TreeChanges.{KeepLeaves, MayAdd, MaySet, MayRemove}
@@ -48,7 +48,7 @@ module _ (tree : Tree) (homes : Homes) (tabled : IsTabled tree homes) where
           (λ (w : StandsAs tree d). or_right (d == 1) _ (ap is_some (home_of w.dentry w.inode d w.stands w.numbered w.kinded))) (directory_stands tree d stands)
 
   -- what is above by parents is above by entries,
-  pub above_in_tree : (d x : ℕ) → IsAbove homes d x → IsAboveIn tree d x
+  pub above_in_tree : (d x : ℕ) → IsAncestor homes d x → IsAboveIn tree d x
   above_in_tree d x (parent _ home is same) =
       let w = tabled.holds.stands x home is in
       subst (λ y. IsAboveIn tree d y) w.2 (child home.name w.0 (ap (λ m. at tree m home.name) (sym same) ∙ w.1))
@@ -61,7 +61,7 @@ module _ (tree : Tree) (homes : Homes) (tabled : IsTabled tree homes) where
   is_dir_entry dentry inode stands here = true_from_ne_false _ (λ file. no_directory tree dentry inode tabled.whole stands file here)
 
   -- and the other way round, for a directory
-  above_in_table : (d x : ℕ) → is_directory tree x ≡ true → IsAboveIn tree d x → IsAbove homes d x
+  above_in_table : (d x : ℕ) → is_directory tree x ≡ true → IsAboveIn tree d x → IsAncestor homes d x
   above_in_table d _ here (child name inode stands) =
       parent inode.ino.0 (home_at (dentry_of d name)) (tabled.holds.listed (dentry_of d name) inode stands (is_dir_entry (dentry_of d name) inode stands here)) refl
   above_in_table d _ here (further_down m name inode above stands) =
@@ -69,7 +69,7 @@ module _ (tree : Tree) (homes : Homes) (tabled : IsTabled tree homes) where
       (above_in_table d m (tabled.whole.parents m name inode stands) above)
 
   -- so the table tells what the tree's test tells
-  pub above_is : (d x : ℕ) (told : Bool) → is_directory tree x ≡ true → IsTrue told ↔ IsAbove homes d x → told ≡ is_above tree d x
+  pub above_is : (d x : ℕ) (told : Bool) → is_directory tree x ≡ true → IsTrue told ↔ IsAncestor homes d x → told ≡ is_above tree d x
   above_is d x told here exact =
       let test = above_exact tree d x tabled.whole in
       both_ways told (is_above tree d x) (λ yes. test.1 (above_in_tree d x (exact.0 yes))) (λ yes. exact.1 (above_in_table d x here (test.0 yes)))

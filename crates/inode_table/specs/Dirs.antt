@@ -30,7 +30,7 @@ DirPins = map.FinMap nat_cmp Rank
 
 -- what contracts see of a table: the homes and the leaves, how many entries each directory has, the pins, and how many
 -- more directories still fit with no growth
-pub record Table : Type 0 where
+pub record DirTable : Type 0 where
   pub homes : Homes
   pub trees : Covers
   pub counts : Counts
@@ -84,11 +84,11 @@ pub record IsLeafAt (homes : Homes) (covers : Covers) (d hash : ℕ) (leaf : Fra
   pub home : above ≡ map.get homes d
 
 -- d is above x: a chain of one or more parents leads from x to d
-pub data IsAbove (homes : Homes) (d : ℕ) : ℕ → Type 0 where
+pub data IsAncestor (homes : Homes) (d : ℕ) : ℕ → Type 0 where
   -- d is the parent of x
-  parent : (x : ℕ) (home : Home) → map.get homes x ≡ Some home → home.parent.0 ≡ d → IsAbove homes d x
+  parent : (x : ℕ) (home : Home) → map.get homes x ≡ Some home → home.parent.0 ≡ d → IsAncestor homes d x
   -- d is above the parent of x
-  further : (x : ℕ) (home : Home) → map.get homes x ≡ Some home → IsAbove homes d home.parent.0 → IsAbove homes d x
+  further : (x : ℕ) (home : Home) → map.get homes x ≡ Some home → IsAncestor homes d home.parent.0 → IsAncestor homes d x
 
 -- so many parents lead from x to the root
 abbrev pub Reaches : Homes → ℕ → ℕ → Type 0
@@ -117,7 +117,7 @@ pub record MayMove (homes : Homes) (d : ℕ) (home : Home) : Type 0 where
   pub there : is_some (map.get homes d) ≡ true
   pub parent_known : is_known homes home.parent.0 ≡ true
   pub other : home.parent.0 ≡ d → ⊥
-  pub not_below : IsAbove homes d home.parent.0 → ⊥
+  pub not_below : IsAncestor homes d home.parent.0 → ⊥
 
 -- a directory is no one's parent
 abbrev pub IsChildless : Homes → ℕ → Type 0

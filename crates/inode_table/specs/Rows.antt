@@ -8,39 +8,39 @@ use Rattle.inode_table.specs.declared.dirs.Directory.{Directory}
 use Rattle.inode_table.specs.Dirs.{Counts, Covers, DirPins, Homes, or_whole}
 
 -- the directories below the root by number
-abbrev pub Rows : Type 0
-Rows = map.FinMap nat_cmp Directory
+abbrev pub DirRows : Type 0
+DirRows = map.FinMap nat_cmp Directory
 
 -- the leaves of the row that was found, if they were set
-abbrev pub leaves_in : Option Directory → Option (List Fragment)
-leaves_in None = None
-leaves_in (Some row) = row.settings.leaves
+abbrev pub leaves_of_row : Option Directory → Option (List Fragment)
+leaves_of_row None = None
+leaves_of_row (Some row) = row.settings.leaves
 
 -- whether a directory below the root has leaves that were set
-abbrev pub has_leaves : Rows → ℕ → Bool
-has_leaves rows d = is_some (leaves_in (map.get rows d))
+abbrev pub has_leaves : DirRows → ℕ → Bool
+has_leaves rows d = is_some (leaves_of_row (map.get rows d))
 
 -- where each directory stands
-unfoldable pub homes_of : Rows → Homes
+unfoldable pub homes_of : DirRows → Homes
 homes_of rows = map.from_sorted (map (λ e. (e.0, e.1.home)) (map.entries rows))
 
 -- the leaves that were set of directories below the root
-unfoldable pub covers_below : Rows → Covers
+unfoldable pub covers_below : DirRows → Covers
 covers_below rows =
     map.from_sorted (map (λ e. (e.0, or_whole e.1.settings.leaves)) (map.entries (map.retain_keys rows (has_leaves rows))))
 
 -- and with those of the root, if they were set
-abbrev pub covers_of : Option (List Fragment) → Rows → Covers
+abbrev pub covers_of : Option (List Fragment) → DirRows → Covers
 covers_of None rows = covers_below rows
 covers_of (Some leaves) rows = map.insert (covers_below rows) 1 leaves
 
 -- how many entries each directory below the root has
-unfoldable pub counts_below : Rows → Counts
+unfoldable pub counts_below : DirRows → Counts
 counts_below rows = map.from_sorted (map (λ e. (e.0, e.1.entries)) (map.entries rows))
 
 -- and with those of the root
-abbrev pub counts_of : ℕ → Rows → Counts
-counts_of root rows = map.insert (counts_below rows) 1 root
+abbrev pub counts_with_root : ℕ → DirRows → Counts
+counts_with_root root rows = map.insert (counts_below rows) 1 root
 
 -- the pin of the row that was found, if it has one
 abbrev pub pin_in : Option Directory → Option Rank
@@ -48,7 +48,7 @@ pin_in None = None
 pin_in (Some row) = row.settings.pin
 
 -- whether a directory below the root has a pin
-abbrev pub has_pin : Rows → ℕ → Bool
+abbrev pub has_pin : DirRows → ℕ → Bool
 has_pin rows d = is_some (pin_in (map.get rows d))
 
 -- the rank that a pin names; where there is none, any
@@ -57,5 +57,5 @@ or_first None = record { 0 = 0 }
 or_first (Some rank) = rank
 
 -- the pins
-unfoldable pub pins_of : Rows → DirPins
+unfoldable pub pins_of : DirRows → DirPins
 pins_of rows = map.from_sorted (map (λ e. (e.0, or_first e.1.settings.pin)) (map.entries (map.retain_keys rows (has_pin rows))))

@@ -69,8 +69,8 @@ abbrev pub with_count : Counts → Inode → Counts
 with_count counts inode = cond (is_dir_kind inode.kind) (map.insert counts inode.ino.0 0) counts
 
 -- the pins with that of an inode, if that is a directory
-abbrev pub with_pin : DirPins → Inode → DirPins
-with_pin pins inode = cond (is_dir_kind inode.kind) (pinned_at pins inode.ino.0 inode.pin) pins
+abbrev pub with_dir_pin : DirPins → Inode → DirPins
+with_dir_pin pins inode = cond (is_dir_kind inode.kind) (pinned_at pins inode.ino.0 inode.pin) pins
 
 -- rows of directories without that of an inode, if there was one
 abbrev pub without_row : {X : Type 0} → map.FinMap nat_cmp X → Option Inode → map.FinMap nat_cmp X

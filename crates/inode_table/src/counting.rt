@@ -4,7 +4,7 @@ ghost use Rattle.std.specs.FinMap as map;
 ghost use Rattle.sorted_map.specs.SortedMap.{contents};
 ghost use Rattle.mds_types.specs.Tree.{dentry_cmp, is_dir_kind};
 ghost use Rattle.inode_table.specs.Dirs.{count_of, is_known, one_more};
-ghost use Rattle.inode_table.specs.TreeTable.{IsCounted, IsTabled, with_pin};
+ghost use Rattle.inode_table.specs.TreeTable.{IsCounted, IsTabled, with_dir_pin};
 
 use crate::dirs::Dirs;
 use mds_types::{Dentry, Inode};
@@ -33,7 +33,7 @@ fn count_entry(dirs: &mut Dirs, dentry: &Dentry, inode: &Inode)
     requires listed { is_dir_kind inode.now.kind ≡ true → is_some (map.get dirs.old.homes inode.now.ino.0) ≡ true }
     ensures { dirs.new ≡ record dirs.old {
       counts = one_more dirs.old.counts dentry.now.dir.0;
-      pins = with_pin dirs.old.pins inode.now;
+      pins = with_dir_pin dirs.old.pins inode.now;
     } }
 {
     dirs.entry_comes(dentry.dir);

@@ -7,9 +7,9 @@ ghost use Rattle.mds_types.specs.Frag.{root_fragment};
 ghost use Rattle.fragtree.specs.FragTree.{CanMerge, CanSplit, IsPick, IsSplit, IsTree, RefusesMerge, RefusesSplit};
 ghost use Rattle.mds_types.specs.declared.ids.Ino.{Ino};
 ghost use Rattle.inode_table.specs.Order.{dirs_after, trees_after};
-ghost use Rattle.inode_table.specs.Rows.{leaves_in};
+ghost use Rattle.inode_table.specs.Rows.{leaves_of_row};
 ghost use Rattle.inode_table.specs.declared.dirs.Directory.{Directory as Row};
-ghost use Rattle.inode_table.specs.Dirs.{IsAbove, IsLeafAt, IsLive, IsTable, MayCome, MayGo, MayMove, RefusesLeaves, count_of, is_known, leaves_of, one_less, one_more, or_whole, pinned_at};
+ghost use Rattle.inode_table.specs.Dirs.{IsAncestor, IsLeafAt, IsLive, IsTable, MayCome, MayGo, MayMove, RefusesLeaves, count_of, is_known, leaves_of, one_less, one_more, or_whole, pinned_at};
 
 use crate::boxed_tree::BoxedTree;
 use crate::set_leaves::{check_split_of, picked, split_in, tree_of};
@@ -70,17 +70,17 @@ impl Model for Dirs {
     ghost use Rattle.std.specs.Coded.{codes};
     ghost use Rattle.std.specs.FinMap as map;
     ghost use Rattle.sorted_map.specs.SortedMap.{contents};
-    ghost use Rattle.inode_table.specs.Dirs.{Table, IsTable};
-    ghost use Rattle.inode_table.specs.Rows.{counts_of, covers_of, homes_of, pins_of};
+    ghost use Rattle.inode_table.specs.Dirs.{DirTable, IsTable};
+    ghost use Rattle.inode_table.specs.Rows.{counts_with_root, covers_of, homes_of, pins_of};
 
-    ghost Value = { Table };
+    ghost Value = { DirTable };
 
     ghost coded = { Prim.hlevel (codes, map.code) };
 
     ghost view = { λ d. record {
       homes = homes_of (contents nat_cmp d.below);
       trees = covers_of d.root (contents nat_cmp d.below);
-      counts = counts_of d.in_root (contents nat_cmp d.below);
+      counts = counts_with_root d.in_root (contents nat_cmp d.below);
       pins = pins_of (contents nat_cmp d.below);
       room = d.below.room;
     } };
@@ -446,7 +446,7 @@ impl Dirs {
     /// Whether a directory is above another: a chain of one or more parents leads from `below` to `dir`. Takes no
     /// memory, and one look-up for each directory on the way to the root.
     pub fn is_above(&self, dir: Ino, below: Ino) -> bool
-        ensures { IsTrue result ↔ IsAbove self.now.homes dir.0 below.0 }
+        ensures { IsTrue result ↔ IsAncestor self.now.homes dir.0 below.0 }
     {
         self.is_table();
         let mut at = below;
@@ -474,7 +474,7 @@ impl Dirs {
 
 // The leaves of a row that was taken out, if they were ever set.
 fn leaves_left(row: Option<(u64, Directory)>) -> Option<BoxedTree>
-    ensures { result ≡ leaves_in (option_map (λ (r : ℕ × Row). r.1) row) }
+    ensures { result ≡ leaves_of_row (option_map (λ (r : ℕ × Row). r.1) row) }
 {
     let Some((_, row)) = row else {
         return None;

@@ -12,7 +12,7 @@ use Rattle.object_tables.specs.Sessions.{Brings, HasSessionRows}
 use Rattle.keeping.specs.Rows.{SessionRows}
 use Rattle.object_tables.specs.Spelled.{HasTables, HaveOwners, SpellsObjects, SpellsBut, object_key, pair_key}
 use Rattle.object_tables.proofs.SpelledLaws.{one_spelling, spells_less, spells_owned}
-use Rattle.kept_store.specs.Kept.{HasBoth, IsFreshMirror, IsMirrored, IsReady, StoresRows}
+use Rattle.kept_store.specs.Kept.{HasBoth, IsFreshMirror, IsMirrored, MayBegin, StoresRows}
 use Rattle.kept_store.specs.Noting.{AgreeBut, IsMore}
 
 is_false : (b : Bool) → (b ≡ true → ⊥) → b ≡ false
@@ -96,8 +96,8 @@ both_of v recovers objects noted edits m is_open stays db brings =
     let both = brings all.0 all.1 in
     (both.0, λ rows stored. both.1 rows (subst (λ t. HasSessionRows t rows) (sym (m.ready is_open).fresh) (stored v.committed (stays is_open))))
 
-ready_after : (old new : View) → IsReady old → (new.shape ≡ old.shape) × (new.committed_shape ≡ old.shape) → (IsTrue new.is_open → new.trees ≡ new.committed)
-    → IsTrue new.is_open → IsReady new
+ready_after : (old new : View) → MayBegin old → (new.shape ≡ old.shape) × (new.committed_shape ≡ old.shape) → (IsTrue new.is_open → new.trees ≡ new.committed)
+    → IsTrue new.is_open → MayBegin new
 ready_after old new was shapes fresh is_open = record {
   tables = tables_stay old new shapes.0 was.tables;
   shapes = shapes.1 ∙ sym shapes.0;
@@ -132,7 +132,7 @@ kept_all old new before after objects noted m is_open shapes fresh settled spell
 pub settled_on : (old new : View) (before after : Trees → Type 0) (objects : Objects) (noted : Noted) → IsMirrored old before objects noted
     → (IsTrue new.is_open → new ≡ old) → ((db : Trees) → after db → before db) → IsMirrored new after objects noted
 settled_on old new before after objects noted m same fewer = record {
-  ready = λ is_open. subst IsReady (sym (same is_open)) (m.ready (sym (ap (λ (v : View). v.is_open) (same is_open)) ∙ is_open));
+  ready = λ is_open. subst MayBegin (sym (same is_open)) (m.ready (sym (ap (λ (v : View). v.is_open) (same is_open)) ∙ is_open));
   outcomes = λ db may. m.outcomes db (fewer db may);
   owners = λ db may. m.owners db (fewer db may);
 }

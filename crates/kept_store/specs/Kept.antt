@@ -10,7 +10,7 @@ use Rattle.keeping.specs.declared.unkept.Unkept.TheVariants as told
 use Rattle.object_tables.specs.Noted.{Noted, has_key, has_name, none_noted}
 use Rattle.keeping.specs.declared.rows.RowEdit.{RowEdit}
 use Rattle.object_tables.specs.Sessions.{HasSessionRows}
-use Rattle.keeping.specs.Rows.{SessionRows, edited}
+use Rattle.keeping.specs.Rows.{SessionRows, rows_after_edits}
 use Rattle.object_tables.specs.Spelled.{HasTables, HaveOwners, SpellsObjects, SpellsBut}
 
 -- the objects; the names and keys that changed since they were last written into the tables; and the tables
@@ -20,7 +20,7 @@ pub record KeptObjects (T : Type 0) : Type 0 where
   pub tables : T
 
 -- tables on which a transaction may begin: they exist, as the last commit left them
-pub record IsReady (v : View) : Type 0 where
+pub record MayBegin (v : View) : Type 0 where
   pub tables : HasTables v
   pub shapes : v.committed_shape ≡ v.shape
   pub fresh : v.trees ≡ v.committed
@@ -28,14 +28,14 @@ pub record IsReady (v : View) : Type 0 where
 -- the law, if the disk was honest: whatever a crash would leave of the tables now spells the objects, but for what was
 -- noted, and has a row for the object of each pair; while the tables are open they are ready
 pub record IsMirrored (v : View) (recovers : Trees → Type 0) (objects : Objects) (noted : Noted) : Type 0 where
-  pub ready : IsTrue v.is_open → IsReady v
+  pub ready : IsTrue v.is_open → MayBegin v
   pub outcomes : (db : Trees) → recovers db → SpellsBut db objects (has_name noted) (has_key noted)
   pub owners : (db : Trees) → recovers db → HaveOwners db
 
 -- tables that can become a mirror: they were just opened
 pub record IsFreshMirror (v : View) : Type 0 where
   pub is_open : IsTrue v.is_open
-  pub ready : IsReady v
+  pub ready : MayBegin v
 
 -- an outcome of a crash spells the objects
 abbrev pub RecoversObjects : (Trees → Type 0) → Objects → Type 0
@@ -48,7 +48,7 @@ StoresRows recovers rows = (db : Trees) → recovers db → HasSessionRows db ro
 -- tables have both: exactly the objects, and the rows that edits make of those that were stored before
 abbrev pub HasBoth : (Trees → Type 0) → Trees → Objects → List RowEdit → Type 0
 HasBoth before db objects edits =
-    SpellsObjects db objects × ((rows : SessionRows) → StoresRows before rows → HasSessionRows db (edited edits rows))
+    SpellsObjects db objects × ((rows : SessionRows) → StoresRows before rows → HasSessionRows db (rows_after_edits edits rows))
 
 -- a store took edits: nothing is noted any more. If the disk is honest, whatever a crash leaves spells the objects, and
 -- has the rows that the edits make of those that were stored before
@@ -58,7 +58,7 @@ pub record TakesEdits {T : Type 0} (view : T → View) (recovers : T → Trees �
   pub objects : new.objects ≡ old.objects
   pub spelled : IsClean (view new.tables) → (db : Trees) → recovers new.tables db → SpellsObjects db new.objects
   pub rows : IsClean (view new.tables) → (rows : SessionRows) → StoresRows (recovers old.tables) rows
-      → StoresRows (recovers new.tables) (edited edits rows)
+      → StoresRows (recovers new.tables) (rows_after_edits edits rows)
   pub clean : doubt (view old.tables).is_clean ≤ doubt (view new.tables).is_clean
 
 -- an outcome of a crash is found: it spells the objects, and is all that a crash would leave of the tables now. So the

@@ -2,7 +2,7 @@
 ghost use Rattle.std.specs.Prelude.{◌≡◌, ◌⊎◌, ◌↔◌, ◌≤◌, true, IsTrue, IfErr, IfOk, OnErr, OnOk};
 ghost use Rattle.std.specs.FinMap as map;
 ghost use Rattle.object_tables.specs.Noted.{none_noted};
-ghost use Rattle.keeping.specs.Rows.{SessionRows, edited};
+ghost use Rattle.keeping.specs.Rows.{SessionRows, rows_after_edits};
 ghost use Rattle.object_tables.specs.Spelled.{SpellsObjects};
 ghost use Rattle.sqlite_trees.specs.Tree.{Trees as Rows};
 ghost use Rattle.sqlite_trees.specs.View.{IsClean, doubt};
@@ -100,7 +100,7 @@ impl<T: Trees + Drop> Kept<T> {
         ensures objects { self.new.objects ≡ self.old.objects }
         ensures rows { OnOk result (IsClean (T.Store.view self.new.tables) → (rows : SessionRows)
             → StoresRows (T.Store.recovers self.old.tables) rows
-            → StoresRows (T.Store.recovers self.new.tables) (edited edits.now rows)) }
+            → StoresRows (T.Store.recovers self.new.tables) (rows_after_edits edits.now rows)) }
         ensures failed { OnErr result (IsClean (T.Store.view self.new.tables)
             → IsTrue (T.Store.view self.new.tables).is_open → (db : Rows) → T.Store.recovers self.new.tables db → T.Store.recovers self.old.tables db) }
         ensures crash { IsClean (T.Store.view self.new.tables) → (db : Rows) → T.Store.recovers self.new.tables db

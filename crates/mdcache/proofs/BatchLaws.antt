@@ -1,9 +1,9 @@
 -- Commits of whole fragments, several at once.
-use Rattle.mdcache.proofs.Common.{AllByRecursion, AreOfOtherLeaves, Begins, BeginsUnsaved, Begun, CacheMap, Came, CommitsWhole, Core, Dirfrag, EndsJobOf, Err, HasFragment, IsBegunAt, IsEnded, IsFree, IsLive, IsReadyWrite, IsSound, IsSoundCore, IsThat, IsUncleanAt, Job, Jobs, KeepsTree, Leaf, List, MayHold, MayNotBeginAll, MayNotBeginOne, None, NoneEnds, NotAmong, Ok, Option, Rank, Ready, Refusal, Some, State, Unsaved, UnsavedLeaves, [], ap, append_assoc, arith, came_held, came_ranks, came_weaker, committed, cond, drop, drop_more, empty_of_len, false, get-empty, get_or, inl, inr, is_some, leaves_at, leaves_of_jobs, leaves_of_writes, len-remove, length, map-append, ready_of, refl, rules, shown_tree, state_of, subst, suc, sym, true, unclean, with_job, zero, ℕ, ⊎_elim, ◌++◌, ◌+◌, ◌-◌, ◌<◌, ◌∙◌, ◌∷◌, ◌≡◌}
+use Rattle.mdcache.proofs.Common.{AllByRecursion, AreOfOtherLeaves, Begins, BeginsUnsaved, Begun, CacheMap, Came, CommitsWhole, Core, Dirfrag, EndsJobOf, Err, HasFragment, IsBegunAt, IsEnded, IsFree, IsLive, IsReadyWrite, IsSound, IsSoundCore, IsThat, IsUncleanAt, Job, Jobs, KeepsTree, Leaf, List, MayHold, MayNotBeginAll, MayNotBeginOne, None, NoneEnds, NotAmong, Ok, Option, Rank, Ready, Refusal, Some, State, Unsaved, UnsavedLeaves, [], ap, append_assoc, arith, came_held, came_ranks, came_weaker, committed, cond, drop, drop_more, empty_of_len, false, get-empty, get_or, inl, inr, is_some, leaves_of_places, leaves_of_jobs, leaves_of_writes, len-remove, length, map-append, ready_of, refl, rules, shown_tree, state_of, subst, suc, sym, true, unclean, with_job, zero, ℕ, ⊎_elim, ◌++◌, ◌+◌, ◌-◌, ◌<◌, ◌∙◌, ◌∷◌, ◌≡◌}
 use Rattle.std.proofs.Common.{map as list_map, Result}
 use Rattle.std.specs.FinMap as map
 use Rattle.mds_types.specs.Leaf.{leaf_of as leaf_at}
-use Rattle.mdcache.specs.Commits.{leaf_of}
+use Rattle.mdcache.specs.Commits.{leaf_of_job}
 use Rattle.mdcache.proofs.AtHandLaws.{begun_are_at_hand, begun_leave_at_hand, ended_are_clean, others_stay_at_hand}
 use Rattle.mdcache.proofs.CommittedLaws.{whole_then}
 use Rattle.mdcache.proofs.EndLaws.{unclean_is_there}
@@ -85,7 +85,7 @@ rest_is all i one within is = drop_more all i one within ∙ ap (λ x. x ∷ dro
 pub record BeginsFirst (old now : Core) (leaves : List Dirfrag) (i : ℕ) (done : List Begun) : Type 0 where
   pub begun : AllByRecursion (IsBegunAt now) done
   pub rest : AllByRecursion (IsUncleanAt now.caches) (drop i leaves)
-  pub listed : leaves_of_jobs done ++ leaves_at (drop i leaves) ≡ leaves_at leaves
+  pub listed : leaves_of_jobs done ++ leaves_of_places (drop i leaves) ≡ leaves_of_places leaves
   pub among : StandAmong now.jobs (leaves_of_jobs done)
   pub left : state_of now ≡ record (state_of old) { jobs = now.jobs; next_job = now.next_job }
   pub number : now.next_job ≡ old.next_job + i
@@ -94,18 +94,18 @@ pub record BeginsFirst (old now : Core) (leaves : List Dirfrag) (i : ℕ) (done 
   pub sound : IsSoundCore now
 
 module _ (old now : Core) (leaves : List Dirfrag) (i : ℕ) (at : Dirfrag) (within : i < length leaves) (is : at ≡ get_or leaves i at) (done : List Begun)
-    (so_far : BeginsFirst old now leaves i done) (all_apart : AreOfOtherLeaves (leaves_at leaves)) where
+    (so_far : BeginsFirst old now leaves i done) (all_apart : AreOfOtherLeaves (leaves_of_places leaves)) where
   abbrev behind : List Dirfrag
   behind = drop (i + 1) leaves
 
   here : drop i leaves ≡ at ∷ behind
   here = rest_is leaves i at within is
 
-  whole : leaves_of_jobs done ++ leaf_at at ∷ leaves_at behind ≡ leaves_at leaves
-  whole = ap (λ ds. leaves_of_jobs done ++ leaves_at ds) (sym here) ∙ so_far.listed
+  whole : leaves_of_jobs done ++ leaf_at at ∷ leaves_of_places behind ≡ leaves_of_places leaves
+  whole = ap (λ ds. leaves_of_jobs done ++ leaves_of_places ds) (sym here) ∙ so_far.listed
 
   others : AllByRecursion (λ (q : Leaf). q ≡ leaf_at at → ⊥) (leaves_of_jobs done)
-  others = apart_behind (leaves_of_jobs done) (leaf_at at) (leaves_at behind) (subst AreOfOtherLeaves (sym whole) all_apart)
+  others = apart_behind (leaves_of_jobs done) (leaf_at at) (leaves_of_places behind) (subst AreOfOtherLeaves (sym whole) all_apart)
 
   -- no job stands for the next leaf,
   pub next_free : map.get now.jobs (leaf_at at) ≡ None
@@ -122,14 +122,14 @@ module _ (old now : Core) (leaves : List Dirfrag) (i : ℕ) (at : Dirfrag) (with
       let raised : new.next_job ≡ now.next_job + 1 = ap (λ (s : State). s.next_job) left in
       let number = so_far.number in
       subst (BeginsFirst old new leaves (i + 1)) (sym push) (record {
-        begun = all_append (IsBegunAt new) done ((record { rank = at.rank; job = job }) ∷ []) (all_so (λ (b : Begun). leaf_of b.job) (λ q. q ≡ leaf_at at → ⊥) (IsBegunAt now) (IsBegunAt new)
-            (λ b other one. record { holds = holds b.rank (leaf_of b.job) one.holds; hand = begun_leave_at_hand (state_of now) (state_of new) (leaf_at at) job b.job begins other one.hand }) done others so_far.begun)
+        begun = all_append (IsBegunAt new) done ((record { rank = at.rank; job = job }) ∷ []) (all_so (λ (b : Begun). leaf_of_job b.job) (λ q. q ≡ leaf_at at → ⊥) (IsBegunAt now) (IsBegunAt new)
+            (λ b other one. record { holds = holds b.rank (leaf_of_job b.job) one.holds; hand = begun_leave_at_hand (state_of now) (state_of new) (leaf_at at) job b.job begins other one.hand }) done others so_far.begun)
             (record { holds = subst (MayHold new.caches at.rank) (sym hand.1) (holds at.rank (leaf_at at) unclean_here.0.holds); hand = hand.0 }, tt);
         rest = all_weaker (IsUncleanAt now.caches) (IsUncleanAt new.caches)
             (λ a one. record { holds = holds a.rank (leaf_at a) one.holds; dirty = ap (λ (s : State). is_some (map.get s.unsaved (leaf_at a))) left ∙ one.dirty }) behind unclean_here.1;
-        listed = ap (λ l. l ++ leaves_at behind) (map-append (λ (b : Begun). leaf_of b.job) done ((record { rank = at.rank; job = job }) ∷ [])) ∙ append_assoc (leaves_of_jobs done) (leaf_of job ∷ []) (leaves_at behind)
-            ∙ ap (λ q. leaves_of_jobs done ++ q ∷ leaves_at behind) hand.1 ∙ whole;
-        among = λ q apart. let w = apart_parts q job done apart in ap (λ (s : State). map.get s.jobs q) left ∙ get_beside now.jobs (leaf_of job) job q (λ same. w.1 (sym same)) ∙ so_far.among q w.0;
+        listed = ap (λ l. l ++ leaves_of_places behind) (map-append (λ (b : Begun). leaf_of_job b.job) done ((record { rank = at.rank; job = job }) ∷ [])) ∙ append_assoc (leaves_of_jobs done) (leaf_of_job job ∷ []) (leaves_of_places behind)
+            ∙ ap (λ q. leaves_of_jobs done ++ q ∷ leaves_of_places behind) hand.1 ∙ whole;
+        among = λ q apart. let w = apart_parts q job done apart in ap (λ (s : State). map.get s.jobs q) left ∙ get_beside now.jobs (leaf_of_job job) job q (λ same. w.1 (sym same)) ∙ so_far.among q w.0;
         left = left ∙ ap (λ (s : State). with_job s job) so_far.left ∙ (λ j. record (state_of old) { jobs = sym (ap (λ (s : State). s.jobs) left) j; next_job = sym (ap (λ (s : State). s.next_job) left) j });
         number = omega (arith, raised, number);
         tree = steps_keep_tree old now new so_far.tree keeps_it;
@@ -137,7 +137,7 @@ module _ (old now : Core) (leaves : List Dirfrag) (i : ℕ) (at : Dirfrag) (with
         sound = sound;
       })
     where
-      apart_parts : (q : Leaf) (job : Job) (bs : List Begun) → NotAmong q (leaves_of_jobs (bs ++ (record { rank = at.rank; job = job }) ∷ [])) → NotAmong q (leaves_of_jobs bs) × (leaf_of job ≡ q → ⊥)
+      apart_parts : (q : Leaf) (job : Job) (bs : List Begun) → NotAmong q (leaves_of_jobs (bs ++ (record { rank = at.rank; job = job }) ∷ [])) → NotAmong q (leaves_of_jobs bs) × (leaf_of_job job ≡ q → ⊥)
       apart_parts q job [] (other, done) = (tt, other)
       apart_parts q job (b ∷ bs) (other, more) = let w = apart_parts q job bs more in ((other, w.0), w.1)
 
@@ -172,15 +172,15 @@ pub ends_next : (old now new : Core) (ready : List Ready) (i : ℕ) (one : Ready
 ends_next old now new ready i one within is so_far ended whole keeps_it same sound =
     let all = subst (AllByRecursion (IsReadyWrite now)) (rest_is ready i one within is) so_far.rest in
     let apart = subst (λ rs. AreOfOtherLeaves (leaves_of_writes rs)) (rest_is ready i one within is) so_far.apart in
-    let there : is_some (map.get (unclean now.caches) (leaf_of one.encoded.job)) ≡ true = ap is_some all.0.hand.beside in
+    let there : is_some (map.get (unclean now.caches) (leaf_of_job one.encoded.job)) ≡ true = ap is_some all.0.hand.beside in
     let less : map.len (unclean new.caches) ≡ map.len (unclean now.caches) - 1 =
     ap (λ (m : UnsavedLeaves). map.len m) (ended_are_clean (state_of now) (state_of new) one.encoded.job all.0.hand ended)
-    ∙ len-remove leaf-total (unclean now.caches) (leaf_of one.encoded.job) ∙ ap (λ b. cond {A = ℕ} b (map.len (unclean now.caches) - 1) (map.len (unclean now.caches))) there in
-    let some = some_len (unclean now.caches) (leaf_of one.encoded.job) there in
+    ∙ len-remove leaf-total (unclean now.caches) (leaf_of_job one.encoded.job) ∙ ap (λ b. cond {A = ℕ} b (map.len (unclean now.caches) - 1) (map.len (unclean now.caches))) there in
+    let some = some_len (unclean now.caches) (leaf_of_job one.encoded.job) there in
     let fewer = so_far.fewer in
     record {
-      rest = all_so (λ (r : Ready). leaf_of r.encoded.job) (λ q. q ≡ leaf_of one.encoded.job → ⊥) (IsReadyWrite now) (IsReadyWrite new) (λ r other it. record {
-        holds = may_hold_on now.caches new.caches keeps_it.caches r.rank (leaf_of r.encoded.job) it.holds;
+      rest = all_so (λ (r : Ready). leaf_of_job r.encoded.job) (λ q. q ≡ leaf_of_job one.encoded.job → ⊥) (IsReadyWrite now) (IsReadyWrite new) (λ r other it. record {
+        holds = may_hold_on now.caches new.caches keeps_it.caches r.rank (leaf_of_job r.encoded.job) it.holds;
         hand = others_stay_at_hand (state_of now) (state_of new) one.encoded.job r.encoded.job ended other all.0.hand it.hand;
       }) (drop (i + 1) ready) apart.0 all.1;
       apart = apart.1;
@@ -198,4 +198,4 @@ begun_ready core (b ∷ begun) (one, all) = (one, begun_ready core begun all)
 
 pub leaves_ready : (begun : List Begun) → leaves_of_writes (list_map ready_of begun) ≡ leaves_of_jobs begun
 leaves_ready [] = refl
-leaves_ready (b ∷ begun) = ap (λ ls. leaf_of b.job ∷ ls) (leaves_ready begun)
+leaves_ready (b ∷ begun) = ap (λ ls. leaf_of_job b.job ∷ ls) (leaves_ready begun)

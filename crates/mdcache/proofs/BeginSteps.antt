@@ -1,9 +1,9 @@
 -- What the beginning of a commit leaves, done or not.
-use Rattle.mdcache.proofs.Common.{AllCachedIn, AreYoung, Base, Begins, BeginsUnsaved, Bool, Bor, Cached, Came, Core, Dirfrag, Err, HasCached, IsAtEnd, IsBelowEnd, IsFreeFor, IsJobOf, IsLive, IsOf, IsSnap, IsSound, IsSoundCore, IsThat, IsThere, Job, Leaf, NoInodes, NoMemory, None, NoneEnds, Ok, Omap, Option, Refusal, Result, Rooms, Some, State, Unsaved, ap, at, cond, cond_both, counts_of, false, here, here_is, inl, inr, is_clean, is_some, job_for, object_of, option_copied, option_map, refl, rules, same_Some, shown, shown_at, state_of, stays, subst, sym, tied_show, unsaved_in, used_at, used_core, used_unclean, uses, with_job, with_job_in, ℕ, ◌+◌, ◌∙◌, ◌≡◌}
+use Rattle.mdcache.proofs.Common.{AllCachedIn, AreYoung, Base, Begins, BeginsUnsaved, Bool, Bor, Cached, Came, Core, Dirfrag, Err, HasCached, IsAtEnd, IsBelowEnd, IsFreeFor, IsJobOf, IsLive, IsOf, IsSnap, IsSound, IsSoundCore, IsThat, IsThere, Job, Leaf, NoInodes, NoMemory, None, NoneEnds, Ok, Omap, Option, Refusal, Result, Rooms, Some, State, Unsaved, ap, lies_by, cond, cond_both, counts_of, false, here, here_is, inl, inr, is_clean, is_some, job_for, object_of, option_copied, option_map, refl, rules, same_Some, shown_names, shown_at, state_of, stays, subst, sym, tied_show, unsaved_in, used_at, used_core, used_unclean, uses, with_job, with_job_in, ℕ, ◌+◌, ◌∙◌, ◌≡◌}
 use Rattle.std.specs.FinMap as map
 use Rattle.mds_types.specs.Leaf.{leaf_of as leaf_at}
-use Rattle.dentry_cache.specs.Ties.{KeepsAt}
-use Rattle.mdcache.specs.Commits.{leaf_of}
+use Rattle.dentry_cache.specs.Ties.{IsStillDirty}
+use Rattle.mdcache.specs.Commits.{leaf_of_job}
 use Rattle.mdcache.proofs.EndLaws.{unclean_here}
 use Rattle.mdcache.proofs.SoundLaws.{begun_sound}
 use Rattle.mdcache.proofs.NoneLaws.{none_used}
@@ -100,15 +100,15 @@ module _ (c view : Core) (is : view ≡ c) (sound : IsSoundCore c) (a : Dirfrag)
 
         job_is : job ≡ job_for s leaf u
         job_is =
-            let shows : shown its.0 ≡ shown_at (Some u) object = tied_show its.0 object (sound.cached leaf (at a.rank.0 its.0) (here_is a.rank.0 (map.get c.caches.held leaf) its.0 its.1)).tied in
+            let shows : shown_names its.0 ≡ shown_at (Some u) object = tied_show its.0 object (sound.cached leaf (lies_by a.rank.0 its.0) (here_is a.rank.0 (map.get c.caches.held leaf) its.0 its.1)).tied in
             subst (λ (o : Option Cached). HasCached o (IsJobOf s.next_job leaf job)) its.1 taken
             ∙ (λ i. record { number = s.next_job; ino = leaf.0; frag = leaf.1; generation = u.generation; snapshot = record { base = u.base; names = u.dirty; counts = counts_of (shows i) } })
 
         abbrev begun : Core
         begun = with_job_in c a job room
 
-        one_leaf : leaf_of job ≡ leaf
-        one_leaf = ap leaf_of job_is
+        one_leaf : leaf_of_job job ≡ leaf
+        one_leaf = ap leaf_of_job job_is
 
         begun_state : state_of begun ≡ with_job s job
         begun_state = λ i. record s { unsaved = used_unclean c.caches (used_at c.caches a.rank.0 leaf) a.rank.0 leaf refl i; jobs = map.insert s.jobs (sym one_leaf i) job; next_job = s.next_job + 1 }
@@ -116,7 +116,7 @@ module _ (c view : Core) (is : view ≡ c) (sound : IsSoundCore c) (a : Dirfrag)
         is_of : IsOf job u object
         is_of =
             subst (λ (j : Job). IsOf j u object) (sym job_is)
-            (record { valid = subst (λ (j : Job). IsSnap j.snapshot) job_is valid; base = refl; generation = refl; keeps = λ name. elim (map.get u.dirty name) as (λ m. KeepsAt m m) [ None ↦ tt | Some mark ↦ λ same. refl ]; counted = refl })
+            (record { valid = subst (λ (j : Job). IsSnap j.snapshot) job_is valid; base = refl; generation = refl; keeps = λ name. elim (map.get u.dirty name) as (λ m. IsStillDirty m m) [ None ↦ tt | Some mark ↦ λ same. refl ]; counted = refl })
 
         pub begun_is : (new : Core) → new ≡ begun → HasBegun c new a (Ok (Some job))
         begun_is new is_begun = subst (λ (k : Core). HasBegun c k a (Ok (Some job))) (sym is_begun) (record {

@@ -1,7 +1,7 @@
 -- What is left by calls that change no name: of jobs, objects of no live leaf, and places.
 use Rattle.mdcache.proofs.Common.{AllCachedIn, AreCaches, CacheMap, Core, Err, Ino, IsDropped, IsSound, IsSoundCore, Job, Jobs, KeepsNone, Keys, Leaf, List, None, Objects, Ok, OnErr, OnOk, Option, Purges, PurgesName, Refusal, Result, Rooms, Some, State, ap, clean_there, evicted, first_name, given_up, goes, held_given_up, is_known, last_passes, leaves_of, length, not, option_map, order, purged, refl, same_Some, shown_tree, state_of, subst, sym, tree_saved, tree_text, true, unclean, unclean_gone, victim, whole_given_up, with_tree_at, ℕ, ◌<◌, ◌∙◌, ◌≡◌}
 use Rattle.std.specs.FinMap as map
-use Rattle.dentry_cache.specs.Cache.{stays}
+use Rattle.dentry_cache.specs.Cache.{is_to_stay}
 use Rattle.mdcache.proofs.ObjectLaws.{KeepsLeaves, purged_right, tree_saved_right}
 use Rattle.mdcache.proofs.SoundLaws.{dropped_sound}
 
@@ -78,7 +78,7 @@ module _ (old view : Core) (is : view ≡ old) (sound : IsSoundCore old) where
     went gone = elim (victim view.caches r None) as (λ o. victim view.caches r None ≡ o → option_map (given_up view.caches r) o ≡ Some caches → IsLess caches) [
       | None ↦ λ at h. let clash : None ≡ Some caches = h in absurd cc
       | Some v ↦ λ at h. subst IsLess (same_Some (given_up view.caches r v) caches h) (
-        unclean_gone view.caches r v (λ some. clean_there r (map.get view.caches.held v) (not (stays None v)) (last_passes (goes view.caches r None) (order view.caches r) v at)),
+        unclean_gone view.caches r v (λ some. clean_there r (map.get view.caches.held v) (not (is_to_stay None v)) (last_passes (goes view.caches r None) (order view.caches r) v at)),
         (λ q a at. now.cached q a (held_given_up view.caches r v q a at)),
         (λ s q placed. whole_given_up view.caches r v s q there (valid.distinct r) (now.none s q) placed),
       )

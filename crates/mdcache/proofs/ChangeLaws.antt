@@ -1,5 +1,5 @@
 -- The four changes are right.
-use Rattle.mdcache.proofs.Common.{Alters, Change, ChangesAreRight, ChangesOnly, Contains, Counts, Covers, Dentry, DirPins, Fragment, HasLeaf, HasNumber, Homes, Ino, Inode, IsCounted, IsLeafAt, IsLive, IsNamed, IsRightChange, IsSound, IsStandingJob, IsTabled, IsUnsaved, IsUntouched, Job, KeepLeaves, Leaf, List, MayChange, MayCome, MayGo, None, NothingIn, Option, Shape, Some, Spot, State, StaysAsItIs, Tree, Unsaved, [], add, added_counted, added_tabled, adds, ap, arith, changed, cond_both, counts_moved, dentry_at, directory_at, entry_stands, false, false_from_ne_true, fragments_of, home_at, is_dir_kind, is_known, is_some, known_is, leaf_is, leaf_of, leaves, leaves_gone, leaves_kept, leaves_of, may_come, may_drop, may_relocate, may_replace, move, moved_counted, moved_tabled, moves, nat_cmp, noted_change, nothing_in, one_leaf, one_less, refl, remove, removed_counted, removed_tabled, removes, replaced_empty, rows_but, rules, same_Some, set, set_counted, set_tabled, sets, shape_of, shown_tree, stands_after_removal, subst, suc, sym, true, with_dir, with_directory, with_file, with_home, with_home_at, with_moved, without_gone_dir, without_cover, without_directory, without_home, without_row, zero, ℕ, ◌<◌, ◌^◌, ◌∙◌, ◌∷◌, ◌≡◌}
+use Rattle.mdcache.proofs.Common.{Alters, Change, ChangesAreRight, ChangesOnly, Contains, Counts, Covers, Dentry, DirPins, Fragment, HasLeaf, HasNumber, Homes, Ino, Inode, IsCounted, IsDentryLeaf, IsLive, IsNamed, IsRightChange, IsSound, IsStandingJob, IsTabled, IsUnsaved, IsUntouched, Job, KeepLeaves, Leaf, List, MayChange, MayCome, MayGo, None, NothingIn, Option, Shape, Some, Spot, State, StaysAsItIs, Tree, Unsaved, [], add, added_counted, added_tabled, adds, ap, arith, changed, cond_both, counts_moved, dentry_at, directory_at, entry_stands, false, false_from_ne_true, fragments_of, home_at, is_dir_kind, is_known, is_some, known_is, leaf_is, leaf_of, leaves, leaves_gone, leaves_kept, leaves_of, may_come, may_drop, may_relocate, may_replace, move, moved_counted, moved_tabled, moves, nat_cmp, noted_change, nothing_in, one_leaf, one_less, refl, remove, removed_counted, removed_tabled, removes, replaced_empty, rows_but, rules, same_Some, set, set_counted, set_tabled, sets, shape_of, shown_tree, stands_after_removal, subst, suc, sym, true, with_dir, with_directory, with_file, with_home, with_home_at, with_moved, without_gone_dir, without_cover, without_directory, without_home, without_row, zero, ℕ, ◌<◌, ◌^◌, ◌∙◌, ◌∷◌, ◌≡◌}
 use Rattle.std.specs.FinMap as map
 use Rattle.inode_table.specs.Dirs.{MayMove as MayRelocate}
 use Rattle.mdcache.proofs.NamedLaws.{HasSoundLeaves, named_leaves, named_tree, shows_beside, sound_leaves, with_at}
@@ -28,7 +28,7 @@ record IsNamedSo (old new : State) (dentry : Dentry) (f : Fragment) (inode : Opt
   covers : new.covers ≡ old.covers
   stays : (leaf : Leaf) → leaf_is leaf (dentry.dir, f) ≡ false → IsLive old.homes old.covers leaf → StaysAsItIs old new leaf
 
-named_so : (old new : State) (dentry : Dentry) (f : Fragment) (inode : Option Inode) → HasSoundLeaves old → is_known old.homes dentry.dir.0 ≡ true → IsLeafAt old.covers dentry f → IsNamed old new (dentry.dir, f) dentry.name inode
+named_so : (old new : State) (dentry : Dentry) (f : Fragment) (inode : Option Inode) → HasSoundLeaves old → is_known old.homes dentry.dir.0 ≡ true → IsDentryLeaf old.covers dentry f → IsNamed old new (dentry.dir, f) dentry.name inode
     → IsNamedSo old new dentry f inode
 named_so old new dentry f inode sound known pick named =
     subst (λ (t : State). IsNamedSo old t dentry f inode) (sym named.left) (record {
@@ -224,7 +224,7 @@ move_altered source target inode gone old new sound may makes =
     let there = with_home_at in_place (dentry_at target) inode in
     let first = named_so old out (dentry_at source) source.at.frag None (sound_leaves old sound) (entry_known old (dentry_at source) inode sound may.takes.stands) may.carries.taken makes.1 in
     let second = named_so out in_place (dentry_at target) target.at.frag (Some inode) first.leaves (ap (λ (h : Homes). is_known h (dentry_at target).dir.0) first.homes ∙ known_is (shown_tree old) old.homes sound.tabled target.at.dir.0 ∙ may.takes.parent)
-    (subst (λ (c : Covers). IsLeafAt c (dentry_at target) target.at.frag) (sym first.covers) may.carries.put) makes.2.1 in
+    (subst (λ (c : Covers). IsDentryLeaf c (dentry_at target) target.at.frag) (sym first.covers) may.carries.put) makes.2.1 in
     let homes : in_place.homes ≡ old.homes = second.homes ∙ first.homes in
     let relocates : is_dir_kind inode.kind ≡ true → MayRelocate in_place.homes inode.ino.0 (home_at (dentry_at target)) = λ kinded.
     subst (λ (h : Homes). MayRelocate h inode.ino.0 (home_at (dentry_at target))) (sym homes) (may_relocate (shown_tree old) old.homes (dentry_at source) (dentry_at target) inode sound.tabled may.takes kinded) in

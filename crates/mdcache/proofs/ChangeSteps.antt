@@ -1,5 +1,5 @@
 -- What the steps of a change leave, one after the other.
-use Rattle.mdcache.proofs.Common.{AllCachedIn, AreCaches, At, Bool, CacheMap, Cached, Came, Contains, Core, Counts, DirPins, Dirfrag, Fragment, HasCached, HasLeaf, HasRoom, Home, Homes, Ino, Inode, IsCachedIn, IsFree, IsKeptFor, IsLive, IsNamed, IsThere, IsTied, KeepsNone, KeepsOnlyAt, Leaf, List, Mark, None, Option, Rank, Rooms, Some, State, UnsavedLeaves, [], alters, ap, arith, at, at_rank, cond, cond_both, edited_as, ended, ended_all, ended_at, ends, false, false_from_ne_true, get_given_up, get_left_home, get_with_frag, given_up, has, has_place, here, here_is, here_put, here_with_frag, holder_there, is_some, leaf_is, leaf_of, leaves, leaves_in, leaves_of, length, list_any, made_frag, marked, named, none_given_up, object_of, one_leaf, or_whole, refl, removed, rewritten, rows_but, rules, same_Some, state_of, stays, subst, suc, sym, true, unclean, unclean_alike, unclean_given_up, unsaved_at, with_frag, without_dir, without_gone_dir, without_leaves, zero, ℕ, ⊎_elim, ◌<◌, ◌==◌, ◌||◌, ◌∙◌, ◌∷◌, ◌≡◌, ◌≤◌}
+use Rattle.mdcache.proofs.Common.{AllCachedIn, AreCaches, At, Bool, CacheMap, Cached, Came, Contains, Core, Counts, DirPins, Dirfrag, Fragment, HasCached, HasLeaf, HasRoom, Home, Homes, Ino, Inode, IsCachedIn, IsFree, IsKeptFor, IsLive, IsNamed, IsThere, IsTied, KeepsNone, KeepsOnlyAt, Leaf, List, Mark, None, Option, Rank, Rooms, Some, State, UnsavedLeaves, [], alters, ap, arith, lies_by, at_rank, cond, cond_both, edited_as, ended, ended_all, ended_at, ends, false, false_from_ne_true, get_given_up, get_left_home, get_with_frag, given_up, has, has_place, here, here_is, here_put, here_with_frag, holder_there, is_some, leaf_is, leaf_of, leaves, leaves_in, leaves_of, length, list_any, made_frag, marked, named, none_given_up, object_of, one_leaf, or_whole, refl, removed, rewritten, rows_but, rules, same_Some, state_of, stays, subst, suc, sym, true, unclean, unclean_alike, unclean_given_up, unsaved_at, with_frag, without_dir, without_gone_dir, without_leaves, zero, ℕ, ⊎_elim, ◌<◌, ◌==◌, ◌||◌, ◌∙◌, ◌∷◌, ◌≡◌, ◌≤◌}
 use Rattle.std.specs.FinMap as map
 use Rattle.dentry_cache.specs.CacheMap.{with_mark}
 use Rattle.mdcache.specs.Changing.{generation_in}
@@ -46,13 +46,13 @@ KeepGenerations s old c = (leaf : Leaf) (a : At) → IsLive s.homes s.covers lea
 
 -- so it is where one of them is another of its generation
 generations_rewritten : (s : State) (old c : CacheMap) (r : ℕ) (leaf : Leaf) (f now : Cached) → here c r leaf ≡ Some f → now.generation ≡ f.generation → KeepGenerations s old c → KeepGenerations s old (rewritten c r leaf now)
-generations_rewritten s old c r leaf f now seen same kept q a live is = cond_both (leaf_is q leaf) (Some (at r now)) (map.get c.held q) (λ o. o ≡ Some a → a.frag.generation ≡ generation_in (map.get old.held q))
-    (λ one h. sym (ap (λ (x : At). x.frag.generation) (same_Some (at r now) a h)) ∙ same ∙ kept q (at r f) live (ap (map.get c.held) (one_leaf q leaf one) ∙ here_is r (map.get c.held leaf) f seen))
+generations_rewritten s old c r leaf f now seen same kept q a live is = cond_both (leaf_is q leaf) (Some (lies_by r now)) (map.get c.held q) (λ o. o ≡ Some a → a.frag.generation ≡ generation_in (map.get old.held q))
+    (λ one h. sym (ap (λ (x : At). x.frag.generation) (same_Some (lies_by r now) a h)) ∙ same ∙ kept q (lies_by r f) live (ap (map.get c.held) (one_leaf q leaf one) ∙ here_is r (map.get c.held leaf) f seen))
     (λ apart h. kept q a live h) (sym (get_with_frag c r leaf now q) ∙ is)
 
 -- and where one comes of a leaf that wasn't live
 generations_beside : (s : State) (old c : CacheMap) (r : ℕ) (leaf : Leaf) (f : Cached) → (IsLive s.homes s.covers leaf → ⊥) → KeepGenerations s old c → KeepGenerations s old (with_frag c r leaf f)
-generations_beside s old c r leaf f new kept q a live is = cond_both (leaf_is q leaf) (Some (at r f)) (map.get c.held q) (λ o. o ≡ Some a → a.frag.generation ≡ generation_in (map.get old.held q))
+generations_beside s old c r leaf f new kept q a live is = cond_both (leaf_is q leaf) (Some (lies_by r f)) (map.get c.held q) (λ o. o ≡ Some a → a.frag.generation ≡ generation_in (map.get old.held q))
     (λ one h. absurd (new (subst (λ (l : Leaf). IsLive s.homes s.covers l) (one_leaf q leaf one) live))) (λ apart h. kept q a live h) (sym (get_with_frag c r leaf f q) ∙ is)
 
 -- the caches came from those before, their fragments are sound and have the generations they had, and a place that is kept is this one
@@ -100,7 +100,7 @@ module _ (c : Core) (a : Dirfrag) (name : List ℕ) (inode : Option Inode) (ther
   abbrev g : (f : Cached) × (here c.caches a.rank.0 (leaf_of a) ≡ Some f)
   g = its (here c.caches a.rank.0 (leaf_of a)) there
 
-  held : map.get c.caches.held (leaf_of a) ≡ Some (at a.rank.0 g.0)
+  held : map.get c.caches.held (leaf_of a) ≡ Some (lies_by a.rank.0 g.0)
   held = here_is a.rank.0 (map.get c.caches.held (leaf_of a)) g.0 g.1
 
   abbrev its_mark : Mark
@@ -110,8 +110,8 @@ module _ (c : Core) (a : Dirfrag) (name : List ℕ) (inode : Option Inode) (ther
   kept_named = (
     ap (λ (o : Option Cached). has_place (edited_as c.caches a.rank.0 (leaf_of a) (λ (f : Cached). marked f name its_mark) o) a.rank.0 first) g.1 ∙ kept.0,
     ap (λ (k : CacheMap). map.get k.held first) (ap (edited_as c.caches a.rank.0 (leaf_of a) (λ (f : Cached). marked f name its_mark)) g.1) ∙ get_with_frag c.caches a.rank.0 (leaf_of a) (marked g.0 name its_mark) first
-        ∙ ap (λ (b : Bool). cond b (Some (at a.rank.0 (marked g.0 name its_mark))) (map.get c.caches.held first))
-        (false_from_ne_true _ (λ one. let clash : None ≡ Some (at a.rank.0 g.0) = sym kept.1 ∙ ap (map.get c.caches.held) (one_leaf first (leaf_of a) one) ∙ held in cc)) ∙ kept.1,
+        ∙ ap (λ (b : Bool). cond b (Some (lies_by a.rank.0 (marked g.0 name its_mark))) (map.get c.caches.held first))
+        (false_from_ne_true _ (λ one. let clash : None ≡ Some (lies_by a.rank.0 g.0) = sym kept.1 ∙ ap (map.get c.caches.held) (one_leaf first (leaf_of a) one) ∙ held in cc)) ∙ kept.1,
   )
 
 -- where a fragment comes into the one place that is kept, none is kept then
@@ -160,10 +160,10 @@ ended_held : (c : CacheMap) (leaf q : Leaf) (a : At) → map.get (ended c leaf).
 ended_held c leaf q a is = go (map.get c.held leaf) refl is
   where
     go : (o : Option At) → map.get c.held leaf ≡ o → map.get (ended_at c leaf o).held q ≡ Some a → (leaf_is q leaf ≡ false) × (map.get c.held q ≡ Some a)
-    go None at h = (false_from_ne_true _ (λ one. let clash : None ≡ Some a = sym at ∙ ap (map.get c.held) (sym (one_leaf q leaf one)) ∙ h in cc), h)
-    go (Some b) at h =
+    go None lies_by h = (false_from_ne_true _ (λ one. let clash : None ≡ Some a = sym lies_by ∙ ap (map.get c.held) (sym (one_leaf q leaf one)) ∙ h in cc), h)
+    go (Some b) lies_by h =
         cond_both (leaf_is q leaf) None (map.get c.held q) (λ o. o ≡ Some a → (leaf_is q leaf ≡ false) × (map.get c.held q ≡ Some a)) (λ one h. let clash : None ≡ Some a = h in absurd cc) (λ apart h. (apart, h))
-        (sym (get_given_up c b.rank leaf q (subst (IsFree b.rank) (sym at) refl)) ∙ h)
+        (sym (get_given_up c b.rank leaf q (subst (IsFree b.rank) (sym lies_by) refl)) ∙ h)
 
 pub still_held : (c : CacheMap) (ls : List Leaf) (q : Leaf) (a : At) → map.get (ended_all c ls).held q ≡ Some a → (list_any (leaf_is q) ls ≡ false) × (map.get c.held q ≡ Some a)
 still_held c [] q a is = (refl, is)

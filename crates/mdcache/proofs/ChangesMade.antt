@@ -1,5 +1,5 @@
 -- What a change makes, once its steps are known.
-use Rattle.mdcache.proofs.Common.{AllCachedIn, At, Bool, CacheMap, Cached, Came, Change, Core, Dirfrag, EndsWith, HasCached, HasNumber, HasRoom, HasSpace, Ino, Inode, IsChangedBy, IsKeptFor, IsLive, IsNamedIn, IsReadOf, IsRightChange, IsSound, IsSoundCore, IsThere, KeepsNone, KeepsOnlyAt, Leaf, List, Makes, MayChange, None, NoneEnds, Objects, Option, Rank, Reads, ReadsCore, Rooms, Some, Spot, State, Unsaved, adds, ap, arith, at, cond, cond_both, count_of, counts_moved, dentry_at, false, first_leaf, get_unclean, here, home_at, inl, inr, is_apart, is_clean, is_dir_kind, is_known, is_some, leaf_of, length, made_frag, may_come, moves, named, object_of, one_less, one_more, pinned, reads_held, refl, removes, root_fragment, rows_but, same_Some, sets, shown_in, shown_tree, shows, state_of, subst, sym, true, unclean, unclean_with, unsaved_at, with_directory, with_entry, with_home, with_new, with_pin, without_gone_dir, without_dir, without_entry, ℕ, ◌-◌, ◌<◌, ◌==◌, ◌^◌, ◌||◌, ◌∙◌, ◌≡◌}
+use Rattle.mdcache.proofs.Common.{AllCachedIn, At, Bool, CacheMap, Cached, Came, Change, Core, Dirfrag, EndsWith, HasCached, HasNumber, HasRoom, HasSpace, Ino, Inode, IsChangedBy, IsKeptFor, IsLive, IsNamedIn, IsReadOf, IsRightChange, IsSound, IsSoundCore, IsThere, KeepsNone, KeepsOnlyAt, Leaf, List, Makes, MayChange, None, NoneEnds, Objects, Option, Rank, Reads, ReadsCore, Rooms, Some, Spot, State, Unsaved, adds, ap, arith, lies_by, cond, cond_both, count_of, counts_moved, dentry_at, false, first_leaf, get_unclean, here, home_at, inl, inr, is_apart, is_clean, is_dir_kind, is_known, is_some, leaf_of, length, made_frag, may_come, moves, named, object_of, one_less, one_more, pinned, reads_held, refl, removes, root_fragment, rows_but, same_Some, sets, shown_in, shown_tree, shows, state_of, subst, sym, true, unclean, unclean_with, unsaved_at, with_directory, with_entry_counted, with_home, with_new, with_dir_pin, without_gone_dir, without_dir, without_entry, ℕ, ◌-◌, ◌<◌, ◌==◌, ◌^◌, ◌||◌, ◌∙◌, ◌≡◌}
 use Rattle.std.specs.FinMap as map
 use Rattle.mdcache.specs.Changing.{generation_in}
 use Rattle.mdcache.specs.Core.{moved_entry, with_dir}
@@ -54,7 +54,7 @@ read_first : (Uses Ends : ℕ → Leaf → Type 0) (objects : Objects) (old new 
 read_first Uses Ends objects old new reads leaf none = go (map.get new.held leaf) refl
   where
     of : (a : At) → IsReadOf Uses objects leaf None a → a.frag.generation ≡ 0
-    of a (inl was) = let clash : None ≡ Some (at a.rank was.0) = was.1 in absurd cc
+    of a (inl was) = let clash : None ≡ Some (lies_by a.rank was.0) = was.1 in absurd cc
     of a (inr read) = ap (λ (f : Cached). f.generation) read.3 ∙ loaded_first leaf read.1 (object_of objects leaf.0 leaf.1) read.2
 
     go : (o : Option At) → map.get new.held leaf ≡ o → generation_in o ≡ 0
@@ -118,12 +118,12 @@ module _ (old new : Core) (sound : IsSound (state_of old)) (begun : 0 < old.next
         let before = first_made (sets spot inode) old cached none in
         subst (IsDone (sets spot inode) old) (sym is)
         (done (sets spot inode) old (pinned now inode) sound not_new may (state_of now, (state_of now, is_named _ _ None old old before place spot.name (Some inode) there, refl), refl)
-        (made_tables _ _ None old now (made_named _ _ None old old before place spot.name (Some inode) there (refl, refl)) old.homes old.counts (with_pin old.pins inode) (λ leaf live. live)) begun)
+        (made_tables _ _ None old now (made_named _ _ None old old before place spot.name (Some inode) there (refl, refl)) old.homes old.counts (with_dir_pin old.pins inode) (λ leaf live. live)) begun)
 
-    pub file_done : KeepsNone old.caches → is_dir_kind inode.kind ≡ false → inode.ino.0 < 2 ^ 64 → MayChange (shown_in old) old.covers (adds spot inode) → new ≡ with_entry now place.dir → IsDone (adds spot inode) old new
+    pub file_done : KeepsNone old.caches → is_dir_kind inode.kind ≡ false → inode.ino.0 < 2 ^ 64 → MayChange (shown_in old) old.covers (adds spot inode) → new ≡ with_entry_counted now place.dir → IsDone (adds spot inode) old new
     file_done none file number may is =
         let before = first_made (adds spot inode) old cached none in
-        subst (IsDone (adds spot inode) old) (sym is) (done (adds spot inode) old (with_entry now place.dir) sound (λ new. number) may (
+        subst (IsDone (adds spot inode) old) (sym is) (done (adds spot inode) old (with_entry_counted now place.dir) sound (λ new. number) may (
           state_of now,
           (state_of now, is_named _ _ None old old before place spot.name (Some inode) there, sym (ap (λ (b : Bool). cond b (with_directory (state_of now) (dentry_at spot) inode.ino) (state_of now)) file)),
           ap (λ (b : Bool). record (state_of now) { counts = cond b (map.insert (one_more old.counts place.dir.0) inode.ino.0 0) (one_more old.counts place.dir.0) }) (sym file),
@@ -140,7 +140,7 @@ module _ (old new : Core) (sound : IsSound (state_of old)) (begun : 0 < old.next
     module _ (only : KeepsOnlyAt kept old.caches) (kept_place : IsKeptFor old.caches spot.at.rank.0 (first_leaf inode.ino)) (kinded : is_dir_kind inode.kind ≡ true) (fits : inode.ino.0 < 2 ^ 64) (rank : spot.at.rank.0 < length old.caches.used)
         (may : MayChange (shown_in old) old.covers (adds spot inode)) (rooms : Rooms) where
       pub directory_done : (name : List ℕ) → name ≡ spot.name
-          → new ≡ with_dir (with_entry now place.dir) first (record { parent = spot.at.dir; name = name }) rooms → IsDone (adds spot inode) old new
+          → new ≡ with_dir (with_entry_counted now place.dir) first (record { parent = spot.at.dir; name = name }) rooms → IsDone (adds spot inode) old new
       directory_done its name is =
           let leaves = sound_leaves (state_of old) sound in
           let come = may_come (shown_in old) old.homes (dentry_at spot) inode sound.tabled may.takes in
@@ -149,12 +149,12 @@ module _ (old new : Core) (sound : IsSound (state_of old)) (begun : 0 < old.next
           let counts = one_more old.counts place.dir.0 in
           let before = made_first (IsNamedIn (adds spot inode)) (EndsWith (adds spot inode)) kept old cached only in
           let named = made_named _ _ kept old old before place spot.name (Some inode) there (inl (refl, refl)) in
-          let grown = made_dir _ _ old (with_entry now place.dir) first (made_tables _ _ kept old now named old.homes counts old.pins (λ leaf live. live))
+          let grown = made_dir _ _ old (with_entry_counted now place.dir) first (made_tables _ _ kept old now named old.homes counts old.pins (λ leaf live. live))
           (kept_named old place spot.name (Some inode) there (first_leaf inode.ino) kept_place rank).1 (home_at (dentry_at spot)) rooms
           (first_live (state_of old) leaves (dentry_at spot) inode.ino come fits) (grown_live (state_of old) leaves (dentry_at spot) inode.ino come fits) not_live (inr (kinded, (refl, refl))) in
           let with_leaf : State = record (with_directory (state_of now) (dentry_at spot) inode.ino) { counts = map.insert counts inode.ino.0 0 } in
-          subst (IsDone (adds spot inode) old) (sym (is ∙ (λ i. with_dir (with_entry now place.dir) first (record { parent = spot.at.dir; name = name i }) rooms)))
-          (done (adds spot inode) old (with_dir (with_entry now place.dir) first (home_at (dentry_at spot)) rooms) sound (λ new. fits) may (
+          subst (IsDone (adds spot inode) old) (sym (is ∙ (λ i. with_dir (with_entry_counted now place.dir) first (record { parent = spot.at.dir; name = name i }) rooms)))
+          (done (adds spot inode) old (with_dir (with_entry_counted now place.dir) first (home_at (dentry_at spot)) rooms) sound (λ new. fits) may (
             with_new (state_of now) (dentry_at spot) inode,
             (state_of now, is_named _ _ kept old old before place spot.name (Some inode) there, refl),
             (λ i. record with_leaf { unsaved = unclean_with now.caches spot.at.rank.0 (first_leaf inode.ino) (made_frag now.next_generation) i })

@@ -4,7 +4,7 @@ use Rattle.std.specs.FinMap as map
 use Rattle.mds_types.proofs.LeafLaws.{get_left, get_removed, same_or_apart}
 use Rattle.objstore.specs.Objects.{written}
 use Rattle.dentry_cache.specs.Cache.{leaf_cmp}
-use Rattle.mdcache.specs.Commits.{leaf_of}
+use Rattle.mdcache.specs.Commits.{leaf_of_job}
 use Rattle.mdcache.specs.Shown.{names_of}
 use Rattle.mdcache.proofs.AtHandLaws.{ended_are_clean}
 use Rattle.mdcache.proofs.SoundLaws.{names_alike}
@@ -43,7 +43,7 @@ module _ (old mid new : State) (first : CommitsWhole old mid) (second : CommitsW
 -- a commit of a fragment that hasn't changed since it began
 module _ (now new : State) (job : Job) (sound : IsSound now) (hand : IsAtHand now job) (ended : IsEnded now new job) where
   abbrev leaf : Leaf
-  leaf = leaf_of job
+  leaf = leaf_of_job job
 
   removed : new.unsaved ≡ map.remove now.unsaved leaf
   removed = ended_are_clean now new job hand ended

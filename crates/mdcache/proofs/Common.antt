@@ -2,11 +2,11 @@
 pub use Rattle.cached_frag.proofs.MarkLaws.{get-patched, marked_beside, marked_here}
 pub use Rattle.cached_frag.proofs.SettledLaws.{get-unsettled}
 pub use Rattle.cached_frag.proofs.ShownLaws.{only_below, shown_put}
-pub use Rattle.cached_frag.specs.Cached.{Cached, imported, is_clean, is_clean_over, is_settled, marked, shown, shown_over, unsettled}
+pub use Rattle.cached_frag.specs.Cached.{Cached, imported, is_clean, is_clean_over, is_settled, marked, shown_names, shown_over, unsettled}
 pub use Rattle.cached_frag.specs.Commit.{Carried, write_of}
-pub use Rattle.cached_frag.specs.Marks.{Marks, inode_or, with_mark, with_marks}
+pub use Rattle.cached_frag.specs.Marks.{Marks, inode_or, with_changed_name, with_marks}
 pub use Rattle.cached_frag.specs.Moving.{TakesIn, marked_as}
-pub use Rattle.cached_frag.specs.Rows.{Row, rows_after, rows_left}
+pub use Rattle.cached_frag.specs.Rows.{NamedInode, rows_after, rows_left}
 pub use Rattle.cached_frag.specs.Snap.{IsBelowEnd, IsSnap, Snap, counts_of, next_version}
 pub use Rattle.cached_frag.specs.declared.bases.Base.{Base}
 pub use Rattle.cached_frag.specs.declared.bases.Base.TheVariants.{Fresh, Stored}
@@ -17,7 +17,7 @@ pub use Rattle.cold_store.proofs.ObjectLaws.{belongs, said_by, said_tree, whole_
 pub use Rattle.cold_store.proofs.StoreRows.{allowed}
 pub use Rattle.cold_store.proofs.TabledLaws.{walked_is_tabled}
 pub use Rattle.cold_store.proofs.WalkedLaws.{is_cold}
-pub use Rattle.cold_store.specs.ColdTree.{HasNoFault, HasRecords, IsColdLeaf, IsColdTree, IsFaulty, IsReached, IsRecord, IsSamePlace, Record, SaysLeaves, tree_of}
+pub use Rattle.cold_store.specs.ColdTree.{HasNoFault, HasRecords, IsColdLeaf, IsColdTree, IsFaulty, IsReached, IsRecord, IsSamePlace, Record, SaysLeaves, tree_object_of}
 pub use Rattle.cold_store.specs.Walked.{IsReachedObject, IsWalked}
 pub use Rattle.dentry_cache.proofs.CacheLaws.{unsaved_here as unsaved_here_at}
 pub use Rattle.dentry_cache.proofs.CameLaws.{absent_roomy, edits_unclean, marked_unclean as now_unclean, used_unclean}
@@ -43,15 +43,15 @@ pub use Rattle.dentry_cache.proofs.UncleanPlaces.{few_taken}
 pub use Rattle.dentry_cache.proofs.UsedLaws.{loaded_clean}
 pub use Rattle.dentry_cache.proofs.WholeLaws.{none_given_up, none_rewrites, none_with_frag, none_with_mark, readies_whole, refused_whole, whole_given_up, whole_rewritten, whole_roomy, whole_used, whole_with_frag}
 pub use Rattle.dentry_cache.specs.Cache.{HasCached, HasRoom, IsThere, Leaf, Unsaved, leaf_is, shows_in, unsaved_in, unsaved_of, with_unsaved}
-pub use Rattle.dentry_cache.specs.CacheCalls.{CanNotKeep, Edits, FetchesAt, IsAbsent, IsEdited, IsWhole, KeepsAt, KeepsNone, MakesRoomAt, MayNotFetchAt, MayNotKeepAt, Rewrites, going_at, kept_at, unclean_at, unclean_in}
-pub use Rattle.dentry_cache.specs.CacheMap.{AreCaches, At, CacheMap, IsFree, IsFreeFor, at, at_rank, clean_in, edited_as, evicted, first, given_up, goes, has_place, here, no_caches, order, removed, rewritten, roomy, unclean, unclean_of, unsaved_at, used_at, victim, with_frag}
-pub use Rattle.dentry_cache.specs.CacheSplits.{AreAbsent, AreKept, IsButPlaces, IsChildAt, IsFamilyAt, IsKeptFor, IsReadyToSplit, MayNotKeepAll, ReadsFamily, SplitsAt, SplitsInto, StaysAt, without_children}
+pub use Rattle.dentry_cache.specs.CacheCalls.{CanNotKeep, Edits, FetchesAt, IsAbsent, IsEdited, HasNoKeptPlace, KeepsAt, KeepsNone, MakesRoomAt, MayNotFetchAt, MayNotKeepAt, Rewrites, going_at, kept_at, unclean_at, unclean_in}
+pub use Rattle.dentry_cache.specs.CacheMap.{AreCaches, At, CacheMap, IsFree, IsFreeFor, lies_by, at_rank, clean_in, edited_as, evicted, moved_first, given_up, goes, has_place, here, no_caches, order, removed, rewritten, roomy, unclean, unclean_of, unsaved_at, used_at, victim, with_frag}
+pub use Rattle.dentry_cache.specs.CacheSplits.{AreAbsent, HaveKeptPlaces, IsButPlaces, IsChildAt, IsFamilyAt, IsKeptFor, IsReadyToSplit, MayNotKeepAll, ReadsFamily, SplitsAt, SplitsInto, StaysAt, without_children}
 pub use Rattle.dentry_cache.specs.Came.{Came, IsThat, NoneEnds, StaysNamed}
 pub use Rattle.dentry_cache.specs.Came.Came.{alters, ends, has, stays, uses}
 pub use Rattle.dentry_cache.specs.Commits.{IsCommitted, leaf_text}
 pub use Rattle.dentry_cache.specs.Divided.{IsNoChild, names_in}
 pub use Rattle.dentry_cache.specs.Ended.{ended, ended_all, ended_at}
-pub use Rattle.dentry_cache.specs.Handing.{AreCleanAt, AreHanded, AreUncleanAt, HandsOver, HaveNoPlace, MayNotHandOver, WantsPlace, handed, kept_all, moved, moved_all, moved_as, without_all}
+pub use Rattle.dentry_cache.specs.Handing.{AreCleanAt, AreHanded, AreUncleanAt, HandsFragmentsOver, HaveNoPlace, MayNotHandOver, WantsPlace, handed, kept_all, moved, moved_all, moved_as, without_all}
 pub use Rattle.dentry_cache.specs.Loading.{IsSaved, Loads, object_of}
 pub use Rattle.dentry_cache.specs.Pairs.{holds}
 pub use Rattle.dentry_cache.specs.Reads.{IsButRoom, IsReadOf, Reads}
@@ -77,18 +77,18 @@ pub use Rattle.mds_types.proofs.CountLaws.{none_counted as told_none}
 pub use Rattle.inode_table.proofs.TableLaws.{above_is, added_tabled, dir_or_not, empty_tabled, known_is, leaves_kept, may_come, may_drop, no_pin, nothing_in, removed_tabled, set_tabled, with_dir, with_file}
 pub use Rattle.inode_table.proofs.Tables.{adopted_table, dropped_table, known_by, moved_table, set_table, still_known, tree_of_row}
 pub use Rattle.inode_table.proofs.TreeOrder.{all_trees, first_has_tree, first_tree_known, next_tree_after}
-pub use Rattle.inode_table.specs.Dirs.{Counts, Covers, DirPins, Homes, IsAbove, IsTable, MayCome, MayGo, MayMove, Reaches, RefusesLeaves, Table, count_of, is_known, leaves_of, one_less, one_more, or_whole}
+pub use Rattle.inode_table.specs.Dirs.{Counts, Covers, DirPins, Homes, IsAncestor, IsTable, MayCome, MayGo, MayMove, Reaches, RefusesLeaves, DirTable, count_of, is_known, leaves_of, one_less, one_more, or_whole}
 pub use Rattle.inode_table.specs.Numbers.{Supply}
 pub use Rattle.inode_table.specs.Order.{trees_after}
 pub use Rattle.inode_table.specs.TreeChanges.{KeepLeaves, MayAdd, MayRemove, MaySet}
-pub use Rattle.inode_table.specs.TreeTable.{IsCounted, IsTabled, counts_moved, home_at, with_count, with_home, with_pin, without_cover, without_home, without_row}
+pub use Rattle.inode_table.specs.TreeTable.{IsCounted, IsTabled, counts_moved, home_at, with_count, with_home, with_dir_pin, without_cover, without_home, without_row}
 pub use Rattle.inode_table.specs.declared.dirs.Home.{Home}
-pub use Rattle.mdcache.specs.Batches.{AreOfOtherLeaves, CommitsWhole, IsAsItWas, IsBegunAt, IsReadied, IsReadyWrite, IsUncleanAt, IsSavedNow, MayNotBeginAll, MayNotBeginOne, MayNotCommit, NotAmong, leaves_at, leaves_of_jobs, leaves_of_writes, ready_of}
+pub use Rattle.mdcache.specs.Batches.{AreOfOtherLeaves, CommitsWhole, IsAsItWas, IsBegunAt, IsReadied, IsReadyWrite, IsUncleanAt, IsSavedNow, MayNotBeginAll, MayNotBeginOne, MayNotCommit, NotAmong, leaves_of_places, leaves_of_jobs, leaves_of_writes, ready_of}
 pub use Rattle.mdcache.specs.CacheReads.{IsNewestOf, LacksPlacesIn}
 pub use Rattle.mdcache.specs.Changes.{Alters, IsAsItStands, IsNamed, Makes, PutsThen, TakesThen, dirtied, first_leaf, housed, just_made, leaves_in, noted_change, object_texts_of, rows_but, with_directory, with_home_at, with_name, with_new, with_objects, without_directory, without_gone_dir, without_leaves}
 pub use Rattle.mdcache.specs.Changing.{ChangesTree, IsChangedBy}
 pub use Rattle.mdcache.specs.Commits.{Begins, BeginsUnsaved, Drops, EndsJobOf, HasSpelled, IsAtEnd, IsDropped, IsEnded, MayNotBeginJob, committed, job_for, names_then, stored_with, with_job}
-pub use Rattle.mdcache.specs.Core.{AllCachedIn, Core, IsCachedIn, IsJobOf, IsNoLess, IsSoundCore, LacksPlacesAt, MayFetch, ReadsCore, Rooms, made_frag, named, pinned, shown_in, shows, state_of, used_core, with_entry, with_job_in, without_dir, without_entry, without_frags}
+pub use Rattle.mdcache.specs.Core.{AllCachedIn, Core, IsCachedIn, IsJobOf, IsNoLess, IsSoundCore, LacksPlacesAt, MayFetch, ReadsCore, Rooms, made_frag, named, pinned, shown_in, shows, state_of, used_core, with_entry_counted, with_job_in, without_dir, without_entry, without_frags}
 pub use Rattle.mdcache.specs.Flushed.{AreExact, ArePurged, BegunAreAtHand, BegunLeaveAtHand, EndedAreClean, FlushedIsCold, HasFragment, IsAtHand, IsFlushed, KeepsTree, OthersStayAtHand, PurgedAreExact, PurgedAreFlushed, StepsKeepTree}
 pub use Rattle.mdcache.specs.Frags.{KeepsState}
 pub use Rattle.mdcache.specs.Given.{GivenOverIsRight, HaveNoJobs, IsGivenOver}
@@ -105,8 +105,8 @@ pub use Rattle.mdcache.specs.Ready.{LacksNumbers, MayNotBeReady}
 pub use Rattle.mdcache.specs.Regrouping.{IsJoined, IsMergeReady, IsSplitReady, ending_at, merged_in, split_in}
 pub use Rattle.mdcache.specs.Regroups.{LacksCounts, MayNotRegroup}
 pub use Rattle.mdcache.specs.SavedTrees.{HasTree, HasTrees, IsAsBefore, SavesTrees}
-pub use Rattle.mdcache.specs.Shown.{directories, entries_in, entries_of, entries_under, names_of, shown_at, shown_tree}
-pub use Rattle.mdcache.specs.Sound.{AreYoung, IsOf, IsOwned, IsSound, IsStandingJob, IsUnsaved}
+pub use Rattle.mdcache.specs.Shown.{directories, dentries_in, entries_of, entries_under, names_of, shown_at, shown_tree}
+pub use Rattle.mdcache.specs.Sound.{AreYoung, IsOf, HasOwner, IsSound, IsStandingJob, IsUnsaved}
 pub use Rattle.mdcache.specs.Splits.{Comes, HasUnsaved, IsConcerned, IsListedAnew, IsMergedInto, IsNewLeaf, IsRegrouped, IsSplitInto, MergesAreRight, NameChildren, SplitsAreRight, are_empty, regrouped, without_objects}
 pub use Rattle.mdcache.specs.SplitsAndMerges.{merged_leaves}
 pub use Rattle.mdcache.specs.StandingJobs.{Finds, IsNextJob, Jobs, NoneHasNumber, JobTable, is_behind}
@@ -140,7 +140,7 @@ pub use Rattle.mds_types.specs.declared.refusals.Refusal.TheVariants.{BadSplit, 
 pub use Rattle.namehash.specs.Rjenkins.{hash_of}
 pub use Rattle.namespace_ops.proofs.Shapes.{Shape, is_adds, is_moves, is_removes, is_sets, shape_of}
 pub use Rattle.namespace_ops.proofs.Shapes.Shape.{add, move, remove, set}
-pub use Rattle.namespace_ops.specs.Changes.{IsLeafAt, MayChange, adds, changed, dentry_at, directory_at, fragments_of, in_directory, leaves, leaves_gone, moves, removes, sets}
+pub use Rattle.namespace_ops.specs.Changes.{IsDentryLeaf, MayChange, adds, changed, dentry_at, directory_at, fragments_of, in_directory, leaves, leaves_gone, moves, removes, sets}
 pub use Rattle.namespace_ops.specs.Kept.{ChangesOnly}
 pub use Rattle.namespace_ops.specs.declared.plans.Change.{Change}
 pub use Rattle.namespace_ops.specs.declared.plans.Spot.{Spot}
@@ -156,7 +156,7 @@ pub use Rattle.sorted_map.proofs.NatKeys.{get_left as get_left_home, is_apart, i
 pub use Rattle.sorted_map.proofs.OverlayLaws.{none_entries}
 pub use Rattle.sorted_map.proofs.PlaceLaws.{gap_behind, less, put_at, put_gap, searched, turned}
 pub use Rattle.sorted_map.specs.Overlay.{without_keys}
-pub use Rattle.sorted_map.specs.Places.{IsAt, IsGap, puts}
+pub use Rattle.sorted_map.specs.Places.{IsKeyAt, IsGap, puts}
 pub use Rattle.sorted_map.specs.SortedMap.{contents}
 pub use Rattle.std.proofs.Common.{Bool, Bor, Equal, Err, Greater, Less, List, None, Ok, Option, Ordering, Some, T, [], ap, append_assoc, arith, cond, drop, drop-cons, drop_of_length-le, false, filter, get_or, get_or-set_same, inl, inr, insert, is_gt, is_lt, length, length-append, map as list_map, not, refl, rules, slice_index_or, subst, suc, sym, take, true, zero, ℕ, ⊎_elim, ◌%◌, ◌&&◌, ◌*◌, ◌++◌, ◌+◌, ◌-◌, ◌/◌, ◌<◌, ◌^◌, ◌||◌, ◌∙◌, ◌∷◌, ◌≡◌, ◌≢◌, ◌≤◌, ◌⊎◌}
 pub use Rattle.std.proofs.Math.Nat.{mul-le-mul_right}

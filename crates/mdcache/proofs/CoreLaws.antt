@@ -1,5 +1,5 @@
 -- What reads and preparations leave of the tree over caches and a store, and what they find.
-use Rattle.mdcache.proofs.Common.{AllCachedIn, At, Base, CacheMap, Cached, Came, Core, Counts, Covers, Dentry, DirPins, Dirfrag, Rewrites, Fragment, HasCached, Homes, IfErr, IfErr-weaker, IfOk, IfOk-weaker, Ino, Inode, IsButRoom, IsCachedIn, IsFree, IsLive, IsNoLess, IsPick, IsSaved, IsSound, IsSoundCore, IsThat, IsThere, IsTiedAt, KeepsNone, KeepsState, Keys, LacksPlacesIn, Leaf, List, Loads, MayFetch, MayHold, MayNotBeReady, MayNotFind, Names, None, NoneEnds, Objects, Omap, OnErr, OnOk, Option, Reads, ReadsCore, Refusal, Result, Rooms, Some, State, UnsavedLeaves, ap, arith, at, came_cap, came_ranks, rewrites_reads, faults_told, fetched_are_tied, get_unclean, hash_of, here, here_is, inl, inr, is_directory, is_known, is_some, it_stays, known_is, leaf_of, leaves_of, length, object_of, reads_came, reads_held, reads_then, reads_unclean, reads_weaker, refl, rules, shown, shown_at, shown_in, shows, shows_in, state_of, subst, sym, true, unclean, unsaved_at, used_at, used_reads, ℕ, ⊎_elim, ◌+◌, ◌<◌, ◌∙◌, ◌≡◌, ◌≤◌, ◌⊎◌}
+use Rattle.mdcache.proofs.Common.{AllCachedIn, At, Base, CacheMap, Cached, Came, Core, Counts, Covers, Dentry, DirPins, Dirfrag, Rewrites, Fragment, HasCached, Homes, IfErr, IfErr-weaker, IfOk, IfOk-weaker, Ino, Inode, IsButRoom, IsCachedIn, IsFree, IsLive, IsNoLess, IsPick, IsSaved, IsSound, IsSoundCore, IsThat, IsThere, IsTiedAt, KeepsNone, KeepsState, Keys, LacksPlacesIn, Leaf, List, Loads, MayFetch, MayHold, MayNotBeReady, MayNotFind, Names, None, NoneEnds, Objects, Omap, OnErr, OnOk, Option, Reads, ReadsCore, Refusal, Result, Rooms, Some, State, UnsavedLeaves, ap, arith, lies_by, came_cap, came_ranks, rewrites_reads, faults_told, fetched_are_tied, get_unclean, hash_of, here, here_is, inl, inr, is_directory, is_known, is_some, it_stays, known_is, leaf_of, leaves_of, length, object_of, reads_came, reads_held, reads_then, reads_unclean, reads_weaker, refl, rules, shown_names, shown_at, shown_in, shows, shows_in, state_of, subst, sym, true, unclean, unsaved_at, used_at, used_reads, ℕ, ⊎_elim, ◌+◌, ◌<◌, ◌∙◌, ◌≡◌, ◌≤◌, ◌⊎◌}
 use Rattle.std.specs.FinMap as map
 use Rattle.std.proofs.Common.{◌-◌, ◌^◌}
 use Rattle.mdcache.specs.Ready.{LacksNumbers}
@@ -46,7 +46,7 @@ module _ (Uses Ends : ℕ → Leaf → Type 0) (old new : Core) (reads : ReadsCo
 
   pub reads_cached_so : IsSoundCore old → AreLive → (leaf : Leaf) (a : At) → map.get new.caches.held leaf ≡ Some a → IsCachedIn (state_of new) leaf a.frag
   reads_cached_so sound live leaf a is = subst (λ (s : State). IsCachedIn s leaf a.frag) (sym reads_state) (⊎_elim
-      (λ was. cached_but (state_of old) leaf was.0 a.frag was.2 (sound.cached leaf (at a.rank was.0) was.1))
+      (λ was. cached_but (state_of old) leaf was.0 a.frag was.2 (sound.cached leaf (lies_by a.rank was.0) was.1))
       (λ came. cached_but (state_of old) leaf came.1 a.frag came.3 (loaded_cached (state_of old) leaf came.1 sound.begun (live a.rank leaf came.0 a is) came.2))
       (reads_held Uses Ends old.objects old.caches new.caches reads.caches leaf a is))
 
@@ -85,7 +85,7 @@ module _ (Uses Ends : ℕ → Leaf → Type 0) (old new : Core) (reads : ReadsCo
 
 -- a leaf that was cached nowhere, and isn't named, is cached nowhere
 pub still_absent : (Uses Ends : ℕ → Leaf → Type 0) (old new : Core) (q : Leaf) → ReadsCore Uses Ends old new → ((r : ℕ) → Uses r q → ⊥) → map.get old.caches.held q ≡ None → map.get new.caches.held q ≡ None
-still_absent Uses Ends old new q reads unnamed none = none_unless (map.get new.caches.held q) (λ a is. ⊎_elim (λ was. let clash : None ≡ Some (at a.rank was.0) = sym none ∙ was.1 in cc) (λ read. unnamed a.rank read.0) (reads_held Uses Ends old.objects old.caches new.caches reads.caches q a is))
+still_absent Uses Ends old new q reads unnamed none = none_unless (map.get new.caches.held q) (λ a is. ⊎_elim (λ was. let clash : None ≡ Some (lies_by a.rank was.0) = sym none ∙ was.1 in cc) (λ read. unnamed a.rank read.0) (reads_held Uses Ends old.objects old.caches new.caches reads.caches q a is))
 
 -- one after the other
 pub reads_core_on : (Uses Ends : ℕ → Leaf → Type 0) (old mid new : Core) → ReadsCore Uses Ends old mid → ReadsCore Uses Ends mid new → ReadsCore Uses Ends old new
@@ -134,12 +134,12 @@ reads_core_wider Few Many FewEnd ManyEnd old new more more_end reads =
 -- ---- what a sound core tells
 
 -- a cached fragment shows the names of its leaf
-pub shows_so : (c : Core) → AllCachedIn (state_of c) c.caches → (r : ℕ) (leaf : Leaf) (f : Cached) → here c.caches r leaf ≡ Some f → names_of (unclean c.caches) c.objects leaf ≡ shown f
+pub shows_so : (c : Core) → AllCachedIn (state_of c) c.caches → (r : ℕ) (leaf : Leaf) (f : Cached) → here c.caches r leaf ≡ Some f → names_of (unclean c.caches) c.objects leaf ≡ shown_names f
 unfolding names_of
 shows_so c cached r leaf f there =
-    let held : map.get c.caches.held leaf ≡ Some (at r f) = here_is r (map.get c.caches.held leaf) f there in
+    let held : map.get c.caches.held leaf ≡ Some (lies_by r f) = here_is r (map.get c.caches.held leaf) f there in
     ap (λ o. shown_at o (object_of c.objects leaf.0 leaf.1)) (get_unclean c.caches leaf ∙ ap unsaved_at held)
-    ∙ cached_shows f (object_of c.objects leaf.0 leaf.1) (cached leaf (at r f) held).tied
+    ∙ cached_shows f (object_of c.objects leaf.0 leaf.1) (cached leaf (lies_by r f) held).tied
 
 module _ (c : Core) (sound : IsSoundCore c) where
   pub dir_known : (d : ℕ) → is_directory (shown_in c) d ≡ true → is_known c.homes d ≡ true
@@ -152,12 +152,12 @@ module _ (c : Core) (sound : IsSoundCore c) where
   pub may_fetch : (a : Dirfrag) → MayHold c.caches a.rank (leaf_of a) → IsLive c.homes c.covers (leaf_of a) → MayFetch c a
   may_fetch a holds live = record { there = holds.there; free = holds.alone; saved = sound.sound.saved (leaf_of a) live }
 
-  pub shows_cached : (r : ℕ) (leaf : Leaf) (f : Cached) → here c.caches r leaf ≡ Some f → names_of (unclean c.caches) c.objects leaf ≡ shown f
+  pub shows_cached : (r : ℕ) (leaf : Leaf) (f : Cached) → here c.caches r leaf ≡ Some f → names_of (unclean c.caches) c.objects leaf ≡ shown_names f
   shows_cached = shows_so c sound.cached
 
   -- what holds of the shown names of a cached fragment holds of those of its leaf
-  pub of_names : (P : Names → Type 0) (r : ℕ) (leaf : Leaf) → HasCached (here c.caches r leaf) (λ (f : Cached). P (shown f)) → P (names_of (unclean c.caches) c.objects leaf)
-  of_names P r leaf has = elim (here c.caches r leaf) as (λ o. here c.caches r leaf ≡ o → HasCached o (λ (f : Cached). P (shown f)) → P (names_of (unclean c.caches) c.objects leaf)) [
+  pub of_names : (P : Names → Type 0) (r : ℕ) (leaf : Leaf) → HasCached (here c.caches r leaf) (λ (f : Cached). P (shown_names f)) → P (names_of (unclean c.caches) c.objects leaf)
+  of_names P r leaf has = elim (here c.caches r leaf) as (λ o. here c.caches r leaf ≡ o → HasCached o (λ (f : Cached). P (shown_names f)) → P (names_of (unclean c.caches) c.objects leaf)) [
     | None ↦ λ there h. absurd h
     | Some f ↦ λ there h. subst P (sym (shows_cached r leaf f there)) h
   ] refl has
@@ -211,11 +211,11 @@ module _ (Uses : ℕ → Leaf → Type 0) (old new : Core) (read : ReadsCore Use
   read_sound = reads_sound Uses NoneEnds old new read sound live none
 
   -- what holds of the shown names of a cached fragment holds of those of its leaf
-  pub read_names : (P : Names → Type 0) (r : ℕ) (leaf : Leaf) → HasCached (here new.caches r leaf) (λ (f : Cached). P (shown f)) → P (names_of (unclean old.caches) old.objects leaf)
+  pub read_names : (P : Names → Type 0) (r : ℕ) (leaf : Leaf) → HasCached (here new.caches r leaf) (λ (f : Cached). P (shown_names f)) → P (names_of (unclean old.caches) old.objects leaf)
   read_names P r leaf has = subst P (ap (λ (s : State). names_of s.unsaved s.objects leaf) (reads_state Uses NoneEnds old new read)) (of_names new read_sound P r leaf has)
 
   pub read_found : (r : ℕ) (dentry : Dentry) (f : Fragment) (found : Option Inode) → is_directory (shown_in old) dentry.dir.0 ≡ true → IsPick (leaves_of old.covers dentry.dir.0) (hash_of dentry.name) f
-      → HasCached (here new.caches r (dentry.dir, f)) (λ (g : Cached). found ≡ map.get (shown g) dentry.name) → found ≡ map.get (shown_in old) dentry
+      → HasCached (here new.caches r (dentry.dir, f)) (λ (g : Cached). found ≡ map.get (shown_names g) dentry.name) → found ≡ map.get (shown_in old) dentry
   read_found r dentry f found known pick has =
       read_names (λ (names : Names). found ≡ map.get names dentry.name) r (dentry.dir, f) has
       ∙ sym (stands_at (state_of old) (sound_leaves (state_of old) sound.sound) dentry f (dir_known old sound dentry.dir.0 known) pick)

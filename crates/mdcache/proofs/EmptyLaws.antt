@@ -3,7 +3,7 @@ use Rattle.mdcache.proofs.Common.{Bool, Fragment, IsTrue, List, NameList, None, 
 use Rattle.std.specs.Prelude.{take, map as each}
 use Rattle.std.specs.FinMap as map
 use Rattle.objstore.specs.Omap.{pairs_after}
-use Rattle.objstore.specs.Objects.{names_after}
+use Rattle.objstore.specs.Objects.{object_names_after}
 
 -- a map without entries is empty, and one with entries isn't
 no_entries : {X : Type 0} (m : map.FinMap key_cmp X) → map.entries m ≡ [] → m ≡ map.empty
@@ -13,8 +13,8 @@ some_entry : {X : Type 0} (m : map.FinMap key_cmp X) (e : List ℕ × X) (es : L
 some_entry {X = X} m e es is same = omega (arith, ap map.len same ∙ len-empty key_cmp X, len-entries m ∙ ap length is)
 
 -- a page of one name is empty where there is no object, and only there
-pub page_told : (objects : Objects) (page : NameList) (some : Bool) → page ≡ first_names 1 (names_after objects None) → some ≡ not (length page.names == 0) → IsTrue some ↔ (objects ≡ map.empty → ⊥)
-unfolding names_after
+pub page_told : (objects : Objects) (page : NameList) (some : Bool) → page ≡ first_names 1 (object_names_after objects None) → some ≡ not (length page.names == 0) → IsTrue some ↔ (objects ≡ map.empty → ⊥)
+unfolding object_names_after
 page_told objects page some is told = elim (map.entries objects) as (λ es. map.entries objects ≡ es → IsTrue some ↔ (objects ≡ map.empty → ⊥)) [
   | [] ↦ λ none. (λ holds. let clash : true ≡ false = sym holds ∙ told_of [] none in absurd cc, λ apart. absurd (apart (no_entries objects none)))
   | e ∷ es ↦ λ has. (λ holds. some_entry objects e es has, λ apart. told_of (e ∷ es) has ∙ ap not (one_of_some e.0 (each (λ (x : List ℕ × Omap). x.0) es)))

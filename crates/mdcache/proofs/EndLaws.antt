@@ -1,12 +1,12 @@
 -- What the end of a commit keeps.
-use Rattle.mdcache.proofs.Common.{AllCachedIn, AreYoung, At, Base, Bool, CacheMap, Cached, Commits, Core, Fresh, HasSpelled, IsCachedIn, IsCommitted, IsCounted, IsEnded, IsFree, IsFreeFor, IsLive, IsOf, IsSaved, IsSound, IsSoundCore, IsStandingJob, IsTabled, IsThere, IsTied, IsUnsaved, Job, Keeps, Leaf, Marks, Names, None, Omap, Option, Some, State, Stored, Unsaved, ap, arith, at, at_rank, committed, committed_are_tied, cond, cond_both, empty_of_len, eqb-true, false, get-unsettled, get_beside, get_put, get_unclean, get_with_frag, here_is, inl, is_clean, is_clean_over, is_same, is_settled, is_some, key_or_apart, leaf_is, leaf_itself, leaf_or_apart, names_at, names_then, next_version, none_entries, not, object_after, object_of, refl, rules, same_Some, same_leaf, shown, shown_at, shown_over, shown_tree, spells_what_it_shows, state_of, subst, sym, text_of, tied_show, true, unclean, unclean_with, unsaved_at, unsaved_here_at, unsaved_in, unsaved_of, unsettled, with_frag, with_marks, with_unsaved, ℕ, ⊎_elim, ◌<◌, ◌==◌, ◌∙◌, ◌≡◌}
+use Rattle.mdcache.proofs.Common.{AllCachedIn, AreYoung, At, Base, Bool, CacheMap, Cached, Commits, Core, Fresh, HasSpelled, IsCachedIn, IsCommitted, IsCounted, IsEnded, IsFree, IsFreeFor, IsLive, IsOf, IsSaved, IsSound, IsSoundCore, IsStandingJob, IsTabled, IsThere, IsTied, IsUnsaved, Job, Keeps, Leaf, Marks, Names, None, Omap, Option, Some, State, Stored, Unsaved, ap, arith, lies_by, at_rank, committed, committed_are_tied, cond, cond_both, empty_of_len, eqb-true, false, get-unsettled, get_beside, get_put, get_unclean, get_with_frag, here_is, inl, is_clean, is_clean_over, is_same, is_settled, is_some, key_or_apart, leaf_is, leaf_itself, leaf_or_apart, names_at, names_then, next_version, none_entries, not, object_after, object_of, refl, rules, same_Some, same_leaf, shown_names, shown_at, shown_over, shown_tree, spells_what_it_shows, state_of, subst, sym, text_of, tied_show, true, unclean, unclean_with, unsaved_at, unsaved_here_at, unsaved_in, unsaved_of, unsettled, with_frag, with_marks, with_unsaved, ℕ, ⊎_elim, ◌<◌, ◌==◌, ◌∙◌, ◌≡◌}
 use Rattle.std.specs.FinMap as map
 use Rattle.mds_types.proofs.LeafLaws.{get_removed}
 use Rattle.objstore.specs.Objects.{written}
 use Rattle.cached_frag.specs.Marks.{patched}
 use Rattle.dentry_cache.specs.CacheMap.{here as here_of}
 use Rattle.dentry_cache.specs.Ties.{IsRight}
-use Rattle.mdcache.specs.Commits.{leaf_of, left_of}
+use Rattle.mdcache.specs.Commits.{leaf_of_job, left_of}
 use Rattle.mdcache.specs.Shown.{names_of}
 use Rattle.mdcache.proofs.SoundLaws.{names_alike, stood_before}
 use Rattle.mdcache.proofs.TextLaws.{one_text}
@@ -19,8 +19,8 @@ unfolding patched
 nothing_patched names marks none = ap (λ es. with_marks names es) (none_entries marks (empty_of_len marks none))
 
 -- a cached fragment shows what isn't clean of it over its object
-pub cached_shows : (f : Cached) (object : Option Omap) → IsTied f object → shown_at (unsaved_of f) object ≡ shown f
-cached_shows f object tie = cond_both (is_clean f) None (Some (record { base = f.base; generation = f.generation; dirty = f.dirty })) (λ o. shown_at o object ≡ shown f)
+pub cached_shows : (f : Cached) (object : Option Omap) → IsTied f object → shown_at (unsaved_of f) object ≡ shown_names f
+cached_shows f object tie = cond_both (is_clean f) None (Some (record { base = f.base; generation = f.generation; dirty = f.dirty })) (λ o. shown_at o object ≡ shown_names f)
     (λ clean. clean_shows f.base refl clean ∙ sym (tied_show f object tie)) (λ dirty. sym (tied_show f object tie))
   where
     clean_shows : (b : Base) → f.base ≡ b → is_clean_over b f.dirty ≡ true → names_at object ≡ shown_over b (names_at object) f.dirty
@@ -47,13 +47,13 @@ unclean_is_there c r leaf free dirty = elim (here_of c r leaf) as (λ o. is_some
 
 -- ---- a commit ended
 
-module _ (c : Core) (r : ℕ) (job : Job) (kept : IsSoundCore c) (stood : map.get c.jobs (leaf_of job) ≡ Some job)
-    (f now : Cached) (at_rank : here_of c.caches r (leaf_of job) ≡ Some f) (done : IsCommitted job.snapshot f now) where
+module _ (c : Core) (r : ℕ) (job : Job) (kept : IsSoundCore c) (stood : map.get c.jobs (leaf_of_job job) ≡ Some job)
+    (f now : Cached) (at_rank : here_of c.caches r (leaf_of_job job) ≡ Some f) (done : IsCommitted job.snapshot f now) where
   abbrev s : State
   s = state_of c
 
   abbrev leaf : Leaf
-  leaf = leaf_of job
+  leaf = leaf_of_job job
 
   abbrev object : Option Omap
   object = object_of s.objects job.ino job.frag
@@ -67,7 +67,7 @@ module _ (c : Core) (r : ℕ) (job : Job) (kept : IsSoundCore c) (stood : map.ge
   abbrev u : Unsaved
   u = stands.unsaved
 
-  held : map.get c.caches.held leaf ≡ Some (at r f)
+  held : map.get c.caches.held leaf ≡ Some (lies_by r f)
   held = here_is r (map.get c.caches.held leaf) f at_rank
 
   beyond : unsaved_of f ≡ Some u
@@ -77,7 +77,7 @@ module _ (c : Core) (r : ℕ) (job : Job) (kept : IsSoundCore c) (stood : map.ge
   its_own = sym (some_but (is_clean f) (record { base = f.base; generation = f.generation; dirty = f.dirty }) u beyond).1
 
   tie : IsTied f object
-  tie = (kept.cached leaf (at r f) held).tied
+  tie = (kept.cached leaf (lies_by r f) held).tied
 
   right : IsRight job.snapshot now object
   right =
@@ -181,12 +181,12 @@ module _ (c : Core) (r : ℕ) (job : Job) (kept : IsSoundCore c) (stood : map.ge
 
   pub ended_cached : AllCachedIn t (with_frag c.caches r leaf now)
   ended_cached q a is = ⊎_elim (λ same.
-      let now_is : at r now ≡ a = same_Some (at r now) a (sym (get_with_frag c.caches r leaf now q ∙ ap (λ (b : Bool). cond b (Some (at r now)) (map.get c.caches.held q)) (same_leaf q leaf same)) ∙ is) in
-      let given = (kept.cached leaf (at r f) held).made in
+      let now_is : lies_by r now ≡ a = same_Some (lies_by r now) a (sym (get_with_frag c.caches r leaf now q ∙ ap (λ (b : Bool). cond b (Some (lies_by r now)) (map.get c.caches.held q)) (same_leaf q leaf same)) ∙ is) in
+      let given = (kept.cached leaf (lies_by r f) held).made in
       let generation = done.generation in
       subst (λ (l : Leaf). IsCachedIn t l a.frag) (sym same) (subst (λ (x : At). IsCachedIn t leaf x.frag) now_is (record { live = live; tied = subst (IsTied now) (sym object_here) right.tied; made = omega (arith, given, generation) })))
       (λ apart.
-      let was = kept.cached q a (sym (get_with_frag c.caches r leaf now q ∙ ap (λ (b : Bool). cond b (Some (at r now)) (map.get c.caches.held q)) apart) ∙ is) in
+      let was = kept.cached q a (sym (get_with_frag c.caches r leaf now q ∙ ap (λ (b : Bool). cond b (Some (lies_by r now)) (map.get c.caches.held q)) apart) ∙ is) in
       record { live = was.live; tied = subst (IsTied a.frag) (sym (object_beside q was.live apart)) was.tied; made = was.made }) (leaf_or_apart q leaf)
 
   pub ended : IsEnded s t job

@@ -1,7 +1,7 @@
 -- What the end of a commit leaves, done or refused.
 use Rattle.mdcache.proofs.Common.{AllCachedIn, CacheMap, Cached, Came, Core, Edits, EndsJobOf, Err, IsCommitted, IsEnded, IsFreeFor, IsSound, IsSoundCore, IsThat, IsThere, Job, Jobs, KeepsNone, Leaf, MayRefuse, NoneEnds, Objects, Ok, Refusal, Result, Rooms, Some, State, WriteOp, ap, by_edits, edits_unclean, has, here, here_is, inr, is_some, leaf_text, refl, state_of, stays, subst, sym, unsaved_in, with_frag, write_of, written, ℕ, ◌∙◌, ◌≡◌}
 use Rattle.std.specs.FinMap as map
-use Rattle.mdcache.specs.Commits.{leaf_of}
+use Rattle.mdcache.specs.Commits.{leaf_of_job}
 use Rattle.mdcache.proofs.CoreLaws.{cached_but}
 use Rattle.mdcache.proofs.EndLaws.{ended, ended_cached, ended_sound, now_unclean, t, unclean_is_there}
 use Rattle.mdcache.proofs.NoneLaws.{none_edits}
@@ -10,15 +10,15 @@ use Rattle.mdcache.proofs.PutLaws.{cached_with}
 -- what the end of a commit leaves, or its refusal
 pub record HasEnded (old new : Core) (r after : ℕ) (job : Job) (result : Result (Unit {0}) Refusal) : Type 0 where
   pub ended : EndsJobOf (state_of old) (state_of new) old.faults after job result
-  pub came : Came (IsThat r (leaf_of job)) NoneEnds old.caches new.caches
+  pub came : Came (IsThat r (leaf_of_job job)) NoneEnds old.caches new.caches
   pub sound : IsSoundCore new
 
-module _ (old view : Core) (is : view ≡ old) (sound : IsSoundCore old) (r : ℕ) (job found : Job) (same_job : found ≡ job) (found_stood : map.get view.jobs (leaf_of found) ≡ Some found) (free : IsFreeFor old.caches r (leaf_of job)) where
+module _ (old view : Core) (is : view ≡ old) (sound : IsSoundCore old) (r : ℕ) (job found : Job) (same_job : found ≡ job) (found_stood : map.get view.jobs (leaf_of_job found) ≡ Some found) (free : IsFreeFor old.caches r (leaf_of_job job)) where
   abbrev leaf : Leaf
-  leaf = leaf_of job
+  leaf = leaf_of_job job
 
   stood : map.get view.jobs leaf ≡ Some job
-  stood = subst (λ (j : Job). map.get view.jobs (leaf_of j) ≡ Some j) same_job found_stood
+  stood = subst (λ (j : Job). map.get view.jobs (leaf_of_job j) ≡ Some j) same_job found_stood
 
   now_sound : IsSoundCore view
   now_sound = subst IsSoundCore (sym is) sound
@@ -62,7 +62,7 @@ module _ (old view : Core) (is : view ≡ old) (sound : IsSoundCore old) (r : �
 
   -- it is done
   module _ (caches : CacheMap) (objects : Objects) (faults : ℕ) (jobs : Jobs) (room : Rooms) (op : WriteOp) (is_written : objects ≡ written view.objects (leaf_text job.ino job.frag) op) (op_is : op ≡ write_of job.snapshot)
-      (settled : Edits (IsCommitted job.snapshot) r leaf view.caches caches) (over : jobs ≡ map.remove view.jobs (leaf_of found)) where
+      (settled : Edits (IsCommitted job.snapshot) r leaf view.caches caches) (over : jobs ≡ map.remove view.jobs (leaf_of_job found)) where
     abbrev with_caches : CacheMap → Core
     with_caches k = record view { caches = k; objects = objects; faults = faults; jobs = jobs; room = room }
 
@@ -75,7 +75,7 @@ module _ (old view : Core) (is : view ≡ old) (sound : IsSoundCore old) (r : �
         let after : state_of (with_caches (with_frag view.caches r leaf now)) ≡ t view r job now_sound stood f now seen change = λ i. record (state_of view) {
           unsaved = now_unclean view r job now_sound stood f now seen change i;
           objects = (is_written ∙ ap (written view.objects (leaf_text job.ino job.frag)) op_is) i;
-          jobs = (over ∙ ap (λ (j : Job). map.remove view.jobs (leaf_of j)) same_job) i;
+          jobs = (over ∙ ap (λ (j : Job). map.remove view.jobs (leaf_of_job j)) same_job) i;
         } in
         subst (λ (s : State). IsDone s (with_frag view.caches r leaf now)) (sym after)
         (ended view r job now_sound stood f now seen change, ended_sound view r job now_sound stood f now seen change, ended_cached view r job now_sound stood f now seen change))

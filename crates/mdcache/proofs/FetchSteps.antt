@@ -1,5 +1,5 @@
 -- A fetch of a leaf: what it leaves, and why it is refused.
-use Rattle.mdcache.proofs.Common.{AreCaches, Bool, CacheMap, Core, Dirfrag, Err, FetchesAt, Fragment, IfErr, IsAbsent, IsNewestOf, IsSaved, IsThere, KeepsNone, LacksPlacesIn, Leaf, List, Loads, MakesRoomAt, MayFetch, MayNotFetchAt, MayNotFind, None, NoneEnds, Objects, Ok, Omap, OnErr, OnOk, Option, Reads, ReadsCore, Refusal, Result, Some, StaysNamed, [], ap, arith, at, at_rank, cond, false, false_from_ne_true, faults_told, fetched_reads, first, get_or-set_same, get_unclean, get_with_frag, has_place, here, inl, inr, it_stays, leaf_is, leaf_of, length, object_of, one_leaf, order, ranks_roomy, refl, result_err, room_reads, roomy, roomy_stays, rules, slice_get, staying, subst, sym, true, unsaved_at, used_at, ℕ, ⊎_elim, ◌+◌, ◌<◌, ◌∙◌, ◌≡◌}
+use Rattle.mdcache.proofs.Common.{AreCaches, Bool, CacheMap, Core, Dirfrag, Err, FetchesAt, Fragment, IfErr, IsAbsent, IsNewestOf, IsSaved, IsThere, KeepsNone, LacksPlacesIn, Leaf, List, Loads, MakesRoomAt, MayFetch, MayNotFetchAt, MayNotFind, None, NoneEnds, Objects, Ok, Omap, OnErr, OnOk, Option, Reads, ReadsCore, Refusal, Result, Some, StaysNamed, [], ap, arith, lies_by, at_rank, cond, false, false_from_ne_true, faults_told, fetched_reads, moved_first, get_or-set_same, get_unclean, get_with_frag, has_place, here, inl, inr, it_stays, leaf_is, leaf_of, length, object_of, one_leaf, order, ranks_roomy, refl, result_err, room_reads, roomy, roomy_stays, rules, slice_get, staying, subst, sym, true, unsaved_at, used_at, ℕ, ⊎_elim, ◌+◌, ◌<◌, ◌∙◌, ◌≡◌}
 use Rattle.std.specs.FinMap as map
 use Rattle.mdcache.proofs.CoreLaws.{first_step, no_less_itself}
 use Rattle.mdcache.proofs.NoneLaws.{none_fetched, none_room}
@@ -11,7 +11,7 @@ not_damaged f o saved loads = search rules
 
 -- what is used comes to the front of its rank's order
 pub newest_used : (c : CacheMap) (r : ℕ) (leaf : Leaf) → r < length c.used → IsNewestOf (used_at c r leaf) r leaf
-newest_used c r leaf there = ap (λ (ls : List Leaf). slice_get ls 0) (get_or-set_same c.used r (first leaf (order c r)) [] there)
+newest_used c r leaf there = ap (λ (ls : List Leaf). slice_get ls 0) (get_or-set_same c.used r (moved_first leaf (order c r)) [] there)
 
 newest_fetched : (c new : CacheMap) (r : ℕ) (leaf : Leaf) (stay : Option Leaf) (object : Option Omap) (b : Bool) → r < length c.used → FetchesAt r leaf stay object b c new → IsNewestOf new r leaf
 newest_fetched c new r leaf stay object true there is = subst (λ (k : CacheMap). IsNewestOf k r leaf) (sym is) (newest_used c r leaf there)
@@ -40,7 +40,7 @@ module _ (a : Dirfrag) (stay : Option Leaf) (Uses : ℕ → Leaf → Type 0) (na
 
     stays_in : (b : Bool) → FetchesAt a.rank.0 (leaf_of a) stay object b c.caches caches' → (r : ℕ) (one : Leaf) → stay ≡ Some one → IsThere (here c.caches r one) → here caches' r one ≡ here c.caches r one
     stays_in true is r one stays there = ap (λ (k : CacheMap). here k r one) is
-    stays_in false f r one stays there = ap (λ (k : CacheMap). here k r one) f.5 ∙ ap (at_rank r) (get_with_frag f.3 a.rank.0 (leaf_of a) f.1 one ∙ ap (λ (b : Bool). cond b (Some (at a.rank.0 f.1)) (map.get f.3.held one)) apart) ∙ kept r one f.3 stays f.4
+    stays_in false f r one stays there = ap (λ (k : CacheMap). here k r one) f.5 ∙ ap (at_rank r) (get_with_frag f.3 a.rank.0 (leaf_of a) f.1 one ∙ ap (λ (b : Bool). cond b (Some (lies_by a.rank.0 f.1)) (map.get f.3.held one)) apart) ∙ kept r one f.3 stays f.4
       where
         apart : leaf_is one (leaf_of a) ≡ false
         apart = false_from_ne_true _ (λ same. subst IsThere (ap (at_rank r) (ap (map.get c.caches.held) (one_leaf one (leaf_of a) same) ∙ f.0)) there)

@@ -1,5 +1,5 @@
 -- What the steps of a flush end in.
-use Rattle.mdcache.proofs.Common.{ArePurged, Fragment, HasTrees, Ino, IsOwned, IsSound, List, None, Omap, Option, PurgedAreFlushed, Some, State, ap, cond, false, get-empty, inl, inr, is_known, is_some, length, nat_lt, or_whole, refl, sym, tree_object, tree_text, true, ◌∙◌, ◌≡◌}
+use Rattle.mdcache.proofs.Common.{ArePurged, Fragment, HasTrees, Ino, HasOwner, IsSound, List, None, Omap, Option, PurgedAreFlushed, Some, State, ap, cond, false, get-empty, inl, inr, is_known, is_some, length, nat_lt, or_whole, refl, sym, tree_object, tree_text, true, ◌∙◌, ◌≡◌}
 use Rattle.std.specs.FinMap as map
 use Rattle.mdcache.proofs.CoverRows.{known_by_row}
 use Rattle.mdcache.proofs.NoNames.{none_unless}
@@ -13,7 +13,7 @@ its_object row = cond (nat_lt 1 (length (or_whole row))) (Some (tree_object (or_
 -- where nothing is left to be removed, a directory whose leaves were never set has no tree object
 module _ (s : State) (sound : IsSound s) (none : s.purge ≡ map.empty) (dir : Ino) (known : is_known s.homes dir.0 ≡ true)
     (unset : map.get s.covers dir.0 ≡ None) where
-  not_owned : IsOwned s (tree_text dir) → ⊥
+  not_owned : HasOwner s (tree_text dir) → ⊥
   not_owned (inl (leaf, live, same)) = no_tree_text s.homes s.covers sound.table sound.numbered leaf dir live known (sym same)
   not_owned (inr (inl (d, row, same))) =
       let one = one_tree_text dir d (sound.numbered dir.0 known) (sound.numbered d.0 (known_by_row s.homes s.covers sound.table d.0 row)) same in

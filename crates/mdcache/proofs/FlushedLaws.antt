@@ -1,5 +1,5 @@
 -- The cold tree of a state of which all is saved is the shown tree, and once all is purged its objects are exact.
-use Rattle.mdcache.proofs.Common.{FlushedIsCold, Fragment, HasLeaf, HasNoFault, HasRecords, Ino, Inode, IsColdLeaf, IsColdTree, IsFaulty, IsFlushed, IsLive, IsPick, IsReached, IsRecord, IsSaved, IsSound, IsTabled, IsTree, List, Names, None, Omap, Option, PurgedAreExact, Reaches, Record, SaysLeaves, Some, SpellsTreeObject, State, [], ap, arith, cond, cond_both, dentry_of, eqb-true, false, get-empty, hash_of, in_empty, inl, inr, is_known, is_some, key_cmp, known_by, leaves_of, length, lt-ltb, ltb-false, ltb-true, names_at, nat_lt, object_of, one_pick, or_cases, pow-lt, refl, root_fragment, said_by, same_Some, same_or_apart, shown_at, shown_tree, subst, suc, sym, tree_object, tree_of, tree_of_row, true, value_of, whole_loads, zero, ℕ, ⊎_elim, ◌-◌, ◌<◌, ◌==◌, ◌^◌, ◌∙◌, ◌∷◌, ◌≡◌, ◌⊎◌}
+use Rattle.mdcache.proofs.Common.{FlushedIsCold, Fragment, HasLeaf, HasNoFault, HasRecords, Ino, Inode, IsColdLeaf, IsColdTree, IsFaulty, IsFlushed, IsLive, IsPick, IsReached, IsRecord, IsSaved, IsSound, IsTabled, IsTree, List, Names, None, Omap, Option, PurgedAreExact, Reaches, Record, SaysLeaves, Some, SpellsTreeObject, State, [], ap, arith, cond, cond_both, dentry_of, eqb-true, false, get-empty, hash_of, in_empty, inl, inr, is_known, is_some, key_cmp, known_by, leaves_of, length, lt-ltb, ltb-false, ltb-true, names_at, nat_lt, object_of, one_pick, or_cases, pow-lt, refl, root_fragment, said_by, same_Some, same_or_apart, shown_at, shown_tree, subst, suc, sym, tree_object, tree_object_of, tree_of_row, true, value_of, whole_loads, zero, ℕ, ⊎_elim, ◌-◌, ◌<◌, ◌==◌, ◌^◌, ◌∙◌, ◌∷◌, ◌≡◌, ◌⊎◌}
 use Rattle.std.specs.FinMap as map
 use Rattle.mds_types.specs.Leaf.{Leaf}
 use Rattle.mdcache.specs.Shown.{names_of as shown_names}
@@ -23,7 +23,7 @@ object_with (Some object) name inode has = (object, refl, has)
 
 -- ---- a state of which nothing is unsaved, and whose directories have the leaves that their objects say
 
-module _ (s : State) (clean : s.unsaved ≡ map.empty) (says : (dir : Ino) → is_known s.homes dir.0 ≡ true → SaysLeaves (tree_of s.objects dir) (leaves_of s.covers dir.0)) where
+module _ (s : State) (clean : s.unsaved ≡ map.empty) (says : (dir : Ino) → is_known s.homes dir.0 ≡ true → SaysLeaves (tree_object_of s.objects dir) (leaves_of s.covers dir.0)) where
   pub none_unsaved : (leaf : Leaf) → map.get s.unsaved leaf ≡ None
   none_unsaved leaf = ap (λ m. map.get m leaf) clean ∙ get-empty _ leaf
 
@@ -35,7 +35,7 @@ module _ (s : State) (clean : s.unsaved ≡ map.empty) (says : (dir : Ino) → i
   -- a leaf in the store, of a known directory, is live, and the other way round
   pub live_leaf : (leaf : Leaf) → is_known s.homes leaf.0.0 ≡ true → IsColdLeaf s.objects leaf → IsLive s.homes s.covers leaf
   live_leaf leaf known (leaves, said, has) =
-      let same : leaves ≡ leaves_of s.covers leaf.0.0 = same_Some _ _ (sym (said_by (tree_of s.objects leaf.0) leaves said) ∙ said_by (tree_of s.objects leaf.0) (leaves_of s.covers leaf.0.0) (says leaf.0 known)) in
+      let same : leaves ≡ leaves_of s.covers leaf.0.0 = same_Some _ _ (sym (said_by (tree_object_of s.objects leaf.0) leaves said) ∙ said_by (tree_object_of s.objects leaf.0) (leaves_of s.covers leaf.0.0) (says leaf.0 known)) in
       record { known = known; stands = subst (λ ls. HasLeaf ls leaf.1) same has }
 
   pub cold_leaf : (leaf : Leaf) → IsLive s.homes s.covers leaf → IsColdLeaf s.objects leaf
@@ -78,7 +78,7 @@ module _ (s : State) (clean : s.unsaved ≡ map.empty) (says : (dir : Ino) → i
         subst (IsSaved w.0) (ap (λ objects. object_of objects (record { 0 = 1 }) w.0) none ∙ get-empty _ _) (sound.saved (record { 0 = 1 }, w.0) (record { known = refl; stands = w.1.stands }) (none_unsaved (record { 0 = 1 }, w.0)))
 
     -- with the table of the tree, and tree objects without pairs, no object is faulty
-    module _ (tabled : IsTabled (shown_tree s) s.homes) (spelled : (dir : Ino) (object : Omap) → is_known s.homes dir.0 ≡ true → tree_of s.objects dir ≡ Some object → SpellsTreeObject object (leaves_of s.covers dir.0)) where
+    module _ (tabled : IsTabled (shown_tree s) s.homes) (spelled : (dir : Ino) (object : Omap) → is_known s.homes dir.0 ≡ true → tree_object_of s.objects dir ≡ Some object → SpellsTreeObject object (leaves_of s.covers dir.0)) where
       -- each reached directory is known
       known_there : (d : ℕ) → IsReached s.objects d → is_known s.homes d ≡ true
       known_there _ IsReached.root = refl
@@ -120,16 +120,16 @@ module _ (s : State) (sound : IsSound s) (saved : IsFlushed s) where
 
   -- a directory has one leaf and no tree object, or several leaves and the object that says so
   abbrev OneOrSeveral : Ino → Type 0
-  OneOrSeveral dir = ((tree_of s.objects dir ≡ None) × (leaves dir ≡ root_fragment ∷ [])) ⊎ ((tree_of s.objects dir ≡ Some (tree_object (leaves dir))) × SpellsTreeObject (tree_object (leaves dir)) (leaves dir))
+  OneOrSeveral dir = ((tree_object_of s.objects dir ≡ None) × (leaves dir ≡ root_fragment ∷ [])) ⊎ ((tree_object_of s.objects dir ≡ Some (tree_object (leaves dir))) × SpellsTreeObject (tree_object (leaves dir)) (leaves dir))
 
   one_or_several : (dir : Ino) → is_known s.homes dir.0 ≡ true → OneOrSeveral dir
   one_or_several dir known =
       let tree = tree_of_row s.homes s.covers sound.table dir.0 in
-      cond_both (nat_lt 1 (length (leaves dir))) (Some (tree_object (leaves dir))) None (λ o. tree_of s.objects dir ≡ o → OneOrSeveral dir)
+      cond_both (nat_lt 1 (length (leaves dir))) (Some (tree_object (leaves dir))) None (λ o. tree_object_of s.objects dir ≡ o → OneOrSeveral dir)
       (λ more is. inr (is, record { header = record { tree = tree; several = ltb-true 1 _ more; spelled = refl }; pairs = refl })) (λ few is. inl (is, one_leaf (leaves dir) tree few)) (saved.trees dir known)
 
   -- so its leaves in the store are those of the table
-  says : (dir : Ino) → is_known s.homes dir.0 ≡ true → SaysLeaves (tree_of s.objects dir) (leaves dir)
+  says : (dir : Ino) → is_known s.homes dir.0 ≡ true → SaysLeaves (tree_object_of s.objects dir) (leaves dir)
   says dir known = ⊎_elim (λ one. subst (λ o. SaysLeaves o (leaves dir)) (sym one.0) one.1) (λ several. subst (λ o. SaysLeaves o (leaves dir)) (sym several.0) several.1.header) (one_or_several dir known)
 
 -- the cold tree is the shown tree

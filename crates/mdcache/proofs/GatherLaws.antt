@@ -1,5 +1,5 @@
 -- The names that are rows_gathered from all leaves of a directory are those that the shown tree lists.
-use Rattle.mdcache.proofs.Common.{Contains, Fragment, Gathered, Ino, Inode, IsPageOf, IsPick, IsSound, List, Names, None, Option, Row, Some, State, T, [], ap, arith, cond, dentry_of, entries_sorted, eq_by_cmp, exact_bytes, false, find-put, find-where_key, rows_gathered, get-entries, hash_of, inl, inr, is_after, is_known, is_sorted-put, is_sorted-where_key, key_cmp, key_tied, leaves_of, left_of, names_after, names_are_listed, names_of, nat_list_cmp_total, none_either, not_found, option_or, put, puts, refl, right_of, rows_after, same_entries, shown_tree, some_pick, subst, suc, sym, tree_of_row, true, zero, ℕ, ⊎_elim, ◌∙◌, ◌∷◌, ◌≡◌, ◌⊎◌}
+use Rattle.mdcache.proofs.Common.{Contains, Fragment, Gathered, Ino, Inode, IsPageOf, IsPick, IsSound, List, Names, None, Option, NamedInode, Some, State, T, [], ap, arith, cond, dentry_of, entries_sorted, eq_by_cmp, exact_bytes, false, find-put, find-where_key, rows_gathered, get-entries, hash_of, inl, inr, is_after, is_known, is_sorted-put, is_sorted-where_key, key_cmp, key_tied, leaves_of, left_of, names_after, names_are_listed, names_of, nat_list_cmp_total, none_either, not_found, option_or, put, puts, refl, right_of, rows_after, same_entries, shown_tree, some_pick, subst, suc, sym, tree_of_row, true, zero, ℕ, ⊎_elim, ◌∙◌, ◌∷◌, ◌≡◌, ◌⊎◌}
 use Rattle.std.specs.FinMap as map
 use Rattle.std.specs.FinMap.Entries.{find, is_sorted}
 use Rattle.fragtree.proofs.TreeLaws.{first as first_has, later as later_has}
@@ -7,11 +7,11 @@ use Rattle.mdcache.proofs.NamedLaws.{sound_leaves, stands_at}
 
 -- ---- names put to others
 
-puts_sorted : (es fs : List Row) → T (is_sorted key_cmp es) → T (is_sorted key_cmp (puts key_cmp es fs))
+puts_sorted : (es fs : List NamedInode) → T (is_sorted key_cmp es) → T (is_sorted key_cmp (puts key_cmp es fs))
 puts_sorted es [] sorted = sorted
 puts_sorted es (f ∷ fs) sorted = puts_sorted (put key_cmp f.0 f.1 es) fs (is_sorted-put key_cmp nat_list_cmp_total f.0 f.1 es sorted)
 
-find-puts : (es fs : List Row) (q : List ℕ) → T (is_sorted key_cmp fs) → find key_cmp q (puts key_cmp es fs) ≡ option_or (find key_cmp q fs) (find key_cmp q es)
+find-puts : (es fs : List NamedInode) (q : List ℕ) → T (is_sorted key_cmp fs) → find key_cmp q (puts key_cmp es fs) ≡ option_or (find key_cmp q fs) (find key_cmp q es)
 find-puts es [] q sorted = refl
 find-puts es (f ∷ fs) q sorted =
     find-puts (put key_cmp f.0 f.1 es) fs q (right_of _ _ sorted)
@@ -28,10 +28,10 @@ abbrev Tells : Option Inode → Option Inode → Type 0
 Tells v o = (o ≡ None) ⊎ (o ≡ v)
 
 module _ (names : Fragment → Names) (after : Option (List ℕ)) where
-  abbrev rows : Fragment → List Row
+  abbrev rows : Fragment → List NamedInode
   rows f = rows_after after (map.entries (names f))
 
-  gathered_sorted : (es : List Row) (fs : List Fragment) → T (is_sorted key_cmp es) → T (is_sorted key_cmp (rows_gathered names after es fs))
+  gathered_sorted : (es : List NamedInode) (fs : List Fragment) → T (is_sorted key_cmp es) → T (is_sorted key_cmp (rows_gathered names after es fs))
   gathered_sorted es [] sorted = sorted
   gathered_sorted es (f ∷ fs) sorted = gathered_sorted (puts key_cmp es (rows f)) fs (puts_sorted es (rows f) sorted)
 
@@ -50,11 +50,11 @@ module _ (names : Fragment → Names) (after : Option (List ℕ)) where
     or_told : (a b : Option Inode) → Tells v a → Tells v b → Tells v (option_or a b)
     or_told a b told tells = ⊎_elim (λ none. subst (Tells v) (sym (ap (λ o. option_or o b) none)) tells) (λ is. inr (or_is a b is tells)) told
 
-    after_leaf : (es : List Row) (f : Fragment) → find key_cmp q (puts key_cmp es (rows f)) ≡ option_or (find key_cmp q (rows f)) (find key_cmp q es)
+    after_leaf : (es : List NamedInode) (f : Fragment) → find key_cmp q (puts key_cmp es (rows f)) ≡ option_or (find key_cmp q (rows f)) (find key_cmp q es)
     after_leaf es f = find-puts es (rows f) q (is_sorted-where_key key_cmp (is_after after) (map.entries (names f)) (entries_sorted (names f)))
 
     -- what is found stays, and what one leaf has is found
-    found : (es : List Row) (fs : List Fragment) → ((f : Fragment) → Contains fs f → Tells v (find key_cmp q (rows f))) → Tells v (find key_cmp q es)
+    found : (es : List NamedInode) (fs : List Fragment) → ((f : Fragment) → Contains fs f → Tells v (find key_cmp q (rows f))) → Tells v (find key_cmp q es)
         → (find key_cmp q es ≡ v) ⊎ ((at : Fragment) × Contains fs at × (find key_cmp q (rows at) ≡ v)) → find key_cmp q (rows_gathered names after es fs) ≡ v
     found es [] each told (inl is) = is
     found es [] each told (inr (at, (k, within, there), is)) = absurd (omega (arith, within))
@@ -68,16 +68,16 @@ module _ (names : Fragment → Names) (after : Option (List ℕ)) where
 -- ---- pages
 
 -- a leaf's names are in order
-pub leaf_taken : (after : Option (List ℕ)) (names : Names) (left : List Row) (page new : Gathered) → left ≡ rows_after after (map.entries names)
-    → ((whole : List Row) → IsPageOf whole page → T (is_sorted key_cmp left) → IsPageOf (puts key_cmp whole left) new) → (whole : List Row) → IsPageOf whole page → IsPageOf (puts key_cmp whole (rows_after after (map.entries names))) new
+pub leaf_taken : (after : Option (List ℕ)) (names : Names) (left : List NamedInode) (page new : Gathered) → left ≡ rows_after after (map.entries names)
+    → ((whole : List NamedInode) → IsPageOf whole page → T (is_sorted key_cmp left) → IsPageOf (puts key_cmp whole left) new) → (whole : List NamedInode) → IsPageOf whole page → IsPageOf (puts key_cmp whole (rows_after after (map.entries names))) new
 leaf_taken after names left page new is takes =
-    subst (λ rows. (whole : List Row) → IsPageOf whole page → IsPageOf (puts key_cmp whole rows) new) is
+    subst (λ rows. (whole : List NamedInode) → IsPageOf whole page → IsPageOf (puts key_cmp whole rows) new) is
     (λ whole p. takes whole p (subst (λ rows. T (is_sorted key_cmp rows)) (sym is) (is_sorted-where_key key_cmp (is_after after) (map.entries names) (entries_sorted names))))
 
 -- the names of the next leaf are taken in, and other leaves are left
-pub leaf_more : (names : Fragment → Names) (after : Option (List ℕ)) (f : Fragment) (fs rest all : List Fragment) (now whole : List Row) (page new : Gathered) (shown : Names) → shown ≡ names f → rest ≡ f ∷ fs → IsPageOf now page
-    → rows_gathered names after now rest ≡ rows_gathered names after whole all → ((w : List Row) → IsPageOf w page → IsPageOf (puts key_cmp w (rows_after after (map.entries shown))) new)
-    → (x : List Row) × IsPageOf x new × (rows_gathered names after x fs ≡ rows_gathered names after whole all)
+pub leaf_more : (names : Fragment → Names) (after : Option (List ℕ)) (f : Fragment) (fs rest all : List Fragment) (now whole : List NamedInode) (page new : Gathered) (shown : Names) → shown ≡ names f → rest ≡ f ∷ fs → IsPageOf now page
+    → rows_gathered names after now rest ≡ rows_gathered names after whole all → ((w : List NamedInode) → IsPageOf w page → IsPageOf (puts key_cmp w (rows_after after (map.entries shown))) new)
+    → (x : List NamedInode) × IsPageOf x new × (rows_gathered names after x fs ≡ rows_gathered names after whole all)
 leaf_more names after f fs rest all now whole page new shown same steps is whole_is takes = (
   puts key_cmp now (rows_after after (map.entries (names f))),
   subst (λ (n : Names). IsPageOf (puts key_cmp now (rows_after after (map.entries n))) new) same (takes now is),

@@ -1,5 +1,5 @@
 -- A state once leaves were handed over: sound, and of the same tree.
-use Rattle.mdcache.proofs.Common.{AreCaches, AreCleanAt, AreHanded, AreUncleanAt, At, CacheMap, Cached, Core, Err, GivenOverIsRight, HandsOver, HaveNoJobs, HaveNoPlace, IfErr, IsCachedIn, IsCounted, IsFrom, IsGivenOver, IsSound, IsSoundCore, IsTabled, IsThere, IsTied, IsUnsaved, IsUntouched, IsWholeBut, Leaf, List, MayNotHandOver, Names, None, NoneEnds, Ok, Omap, OnErr, OnOk, Option, Refusal, Result, Some, State, Tree, Unsaved, UnsavedLeaves, [], all_from, all_of, ap, arith, by_keeping, cap_roomy, cond, cond_both, drop, false, false_from_ne_true, given_up, handed, handed_from, has_place, here, imported, inl, inr, kept_all, leaf_is, length, list_any, moved_all, moved_as, none_beside, object_of, option_map, ranks_handed, ranks_wants, refl, rules, same_Some, shown_at, shown_in, shown_tree, state_of, subst, sym, true, unclean, unclean_in, wants_from, whole_handed, whole_wants, without_all, ℕ, ⊎_elim, ◌+◌, ◌<◌, ◌∙◌, ◌∷◌, ◌≡◌, ◌≢◌, ◌⊎◌}
+use Rattle.mdcache.proofs.Common.{AreCaches, AreCleanAt, AreHanded, AreUncleanAt, At, CacheMap, Cached, Core, Err, GivenOverIsRight, HandsFragmentsOver, HaveNoJobs, HaveNoPlace, IfErr, IsCachedIn, IsCounted, IsFrom, IsGivenOver, IsSound, IsSoundCore, IsTabled, IsThere, IsTied, IsUnsaved, IsUntouched, IsWholeBut, Leaf, List, MayNotHandOver, Names, None, NoneEnds, Ok, Omap, OnErr, OnOk, Option, Refusal, Result, Some, State, Tree, Unsaved, UnsavedLeaves, [], all_from, all_of, ap, arith, by_keeping, cap_roomy, cond, cond_both, drop, false, false_from_ne_true, given_up, handed, handed_from, has_place, here, imported, inl, inr, kept_all, leaf_is, length, list_any, moved_all, moved_as, none_beside, object_of, option_map, ranks_handed, ranks_wants, refl, rules, same_Some, shown_at, shown_in, shown_tree, state_of, subst, sym, true, unclean, unclean_in, wants_from, whole_handed, whole_wants, without_all, ℕ, ⊎_elim, ◌+◌, ◌<◌, ◌∙◌, ◌∷◌, ◌≡◌, ◌≢◌, ◌⊎◌}
 use Rattle.std.specs.FinMap as map
 use Rattle.mdcache.specs.Shown.{names_of}
 use Rattle.mdcache.proofs.TreeLaws.{tree_alike}
@@ -79,7 +79,7 @@ cap_kept c r leaves new kept =
 
 -- what a call leaves
 pub record IsHandedOver (from to : ℕ) (leaves clean : List Leaf) (res : Result (Unit {0}) Refusal) (old new : Core) : Type 0 where
-  pub handed : OnOk res (HandsOver from to leaves clean old.caches new.caches)
+  pub handed : OnOk res (HandsFragmentsOver from to leaves clean old.caches new.caches)
   pub given : OnOk res (IsGivenOver leaves (state_of old) (state_of new))
   pub shown : shown_in new ≡ shown_in old
   pub left : OnErr res (state_of new ≡ state_of old)
@@ -119,7 +119,7 @@ module _ (c : Core) (sound : IsSoundCore c) (from to : ℕ) (apart : from ≢ to
         none = λ r q placed. ⊎_elim (λ is. is) (λ never. absurd never) (whole r q placed);
       }
 
-    by : (res : Result (Unit {0}) Refusal) → HaveNoJobs c.jobs leaves → OnOk res (HandsOver from to leaves clean c.caches caches) → IfErr res (MayNotHandOver to leaves c.caches caches) → OnOk res (AreHanded leaves (unclean c.caches) (unclean caches))
+    by : (res : Result (Unit {0}) Refusal) → HaveNoJobs c.jobs leaves → OnOk res (HandsFragmentsOver from to leaves clean c.caches caches) → IfErr res (MayNotHandOver to leaves c.caches caches) → OnOk res (AreHanded leaves (unclean c.caches) (unclean caches))
         → OnErr res (unclean caches ≡ unclean c.caches) → IsHandedOver from to leaves clean res c after
     by (Ok done) jobless h refused given left = record {
       handed = h;
@@ -149,7 +149,7 @@ module _ (c : Core) (sound : IsSoundCore c) (from to : ℕ) (apart : from ≢ to
 
 -- so of what is seen of the parts that are there
 pub called : (old view : Core) → view ≡ old → IsSoundCore old → (from to : ℕ) → from ≢ to → from < length old.caches.used → to < length old.caches.used → (leaves clean : List Leaf) → AreUncleanAt old.caches from leaves
-    → AreCleanAt old.caches from clean → HaveNoJobs old.jobs leaves → (caches : CacheMap) → AreCaches view.caches → (res : Result (Unit {0}) Refusal) → OnOk res (HandsOver from to leaves clean view.caches caches)
+    → AreCleanAt old.caches from clean → HaveNoJobs old.jobs leaves → (caches : CacheMap) → AreCaches view.caches → (res : Result (Unit {0}) Refusal) → OnOk res (HandsFragmentsOver from to leaves clean view.caches caches)
     → IfErr res (MayNotHandOver to leaves view.caches caches) → (AreCleanAt view.caches from clean → OnOk res (AreHanded leaves (unclean view.caches) (unclean caches))) → OnErr res (unclean caches ≡ unclean view.caches)
     → IsHandedOver from to leaves clean res old (record view { caches = caches })
 called old view is sound from to apart there other leaves clean cached saved jobless caches valid res handed refused unsaved left =

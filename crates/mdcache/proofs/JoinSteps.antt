@@ -1,5 +1,5 @@
 -- What leaves leave in the fragment that joins their names.
-use Rattle.mdcache.proofs.Common.{At, CacheMap, Cached, CanSplit, Core, Dirfrag, HasCached, HasJoined, IsFamilyAt, IsJoined, IsLive, IsSoundCore, IsThat, Leaf, List, Mark, MayHold, Names, None, NoneEnds, Option, ReadsCore, Some, State, TakesIn, [], ap, child_of, get-empty, here, inl, inr, is_known, key_cmp, leaf_of, leaves_of, made_frag, name_joined, names_of, shown, state_of, subst, sym, true, unclean, ℕ, ◌<◌, ◌^◌, ◌∙◌, ◌∷◌, ◌≡◌}
+use Rattle.mdcache.proofs.Common.{At, CacheMap, Cached, CanSplit, Core, Dirfrag, HasCached, HasJoined, IsFamilyAt, IsJoined, IsLive, IsSoundCore, IsThat, Leaf, List, Mark, MayHold, Names, None, NoneEnds, Option, ReadsCore, Some, State, TakesIn, [], ap, child_of, get-empty, here, inl, inr, is_known, key_cmp, leaf_of, leaves_of, made_frag, name_joined, names_of, shown_names, state_of, subst, sym, true, unclean, ℕ, ◌<◌, ◌^◌, ◌∙◌, ◌∷◌, ◌≡◌}
 use Rattle.std.specs.FinMap as map
 use Rattle.mdcache.proofs.CoreLaws.{may_fetch, may_fetch_on, of_names, reads_state}
 use Rattle.mdcache.proofs.JoinLaws.{one_joined}
@@ -17,12 +17,12 @@ family_live c a nb known can caches absent r q (inr child) b is = let clash : No
 
 -- the names of a leaf that was fetched
 pub join_told : (old mid view : Core) → view ≡ mid → (a : Dirfrag) → ReadsCore (IsThat a.rank.0 (leaf_of a)) NoneEnds old mid → IsSoundCore mid → (was now : Cached)
-    → HasCached (here view.caches a.rank.0 (leaf_of a)) (λ (f : Cached). TakesIn was now (shown f) view.next_version) → HasJoined (names_of (unclean old.caches) old.objects) old.next_version (leaf_of a ∷ []) was now
+    → HasCached (here view.caches a.rank.0 (leaf_of a)) (λ (f : Cached). TakesIn was now (shown_names f) view.next_version) → HasJoined (names_of (unclean old.caches) old.objects) old.next_version (leaf_of a ∷ []) was now
 join_told old mid view is a reads sound was now taken =
     one_joined (names_of (unclean old.caches) old.objects) old.next_version (leaf_of a) was now
     (subst (λ (s : State). TakesIn was now (names_of s.unsaved s.objects (leaf_of a)) s.next_version) (reads_state (IsThat a.rank.0 (leaf_of a)) NoneEnds old mid reads)
     (of_names mid sound (λ (names : Names). TakesIn was now names mid.next_version) a.rank.0 (leaf_of a)
-    (subst (λ (k : Core). HasCached (here k.caches a.rank.0 (leaf_of a)) (λ (f : Cached). TakesIn was now (shown f) k.next_version)) is taken)))
+    (subst (λ (k : Core). HasCached (here k.caches a.rank.0 (leaf_of a)) (λ (f : Cached). TakesIn was now (shown_names f) k.next_version)) is taken)))
 
 -- a rank may hold a leaf still once others were read
 pub hold_on : (Uses Ends : ℕ → Leaf → Type 0) (old new : Core) → ReadsCore Uses Ends old new → IsSoundCore old → (a : Dirfrag) → ((r : ℕ) → Uses r (leaf_of a) → r ≡ a.rank.0) → IsLive old.homes old.covers (leaf_of a) → MayHold old.caches a.rank (leaf_of a)

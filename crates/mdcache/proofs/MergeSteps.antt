@@ -1,5 +1,5 @@
 -- What a merge makes of the whole, once all was ready for it.
-use Rattle.mdcache.proofs.Common.{AllCachedIn, At, Base, Bool, CacheMap, Came, CanMerge, Comes, Contains, Contains-from_any, Core, Dirfrag, Frag, Fragment, HasLeaf, HasUnsaved, Inode, IsAmongOr, IsConcerned, IsListedAnew, IsLive, IsMergeReady, IsMergedInto, IsNewLeaf, IsRegrouped, IsSound, IsSoundCore, IsTied, IsTree, KeepsNone, Keys, Leaf, List, Merge, None, NoneEnds, Option, ReadsCore, Some, State, Unsaved, ap, are_empty, arith, at, between, both_ways, cond, dentry_of, each, ending_at, false, false_from_ne_true, fresh_tied, get_left, get_removed, get_with_frag, has_none, hash_of, holds, in_directory, inl, inr, is_clean_over, is_known, leaf_is, leaf_itself, leaf_of, leaves_in, leaves_inside, leaves_of, list_all, list_any, marked_as, merged_in, merged_leaves, names_of, object_of, one_leaf, reads_came, reads_weaker, refl, same_Some, same_leaf, shown, shown_tree, state_of, subst, sym, text_of, texts_differ, tree_of_row, true, true_from_ne_false, unclean, unclean_with, unsaved_here_at, unsaved_of, value_of, with_frag, with_objects, without_leaves, ℕ, ⊎_elim, ◌+◌, ◌<◌, ◌∙◌, ◌≡◌}
+use Rattle.mdcache.proofs.Common.{AllCachedIn, At, Base, Bool, CacheMap, Came, CanMerge, Comes, Contains, Contains-from_any, Core, Dirfrag, Frag, Fragment, HasLeaf, HasUnsaved, Inode, IsAmongOr, IsConcerned, IsListedAnew, IsLive, IsMergeReady, IsMergedInto, IsNewLeaf, IsRegrouped, IsSound, IsSoundCore, IsTied, IsTree, KeepsNone, Keys, Leaf, List, Merge, None, NoneEnds, Option, ReadsCore, Some, State, Unsaved, ap, are_empty, arith, lies_by, between, both_ways, cond, dentry_of, each, ending_at, false, false_from_ne_true, fresh_tied, get_left, get_removed, get_with_frag, has_none, hash_of, holds, in_directory, inl, inr, is_clean_over, is_known, leaf_is, leaf_itself, leaf_of, leaves_in, leaves_inside, leaves_of, list_all, list_any, marked_as, merged_in, merged_leaves, names_of, object_of, one_leaf, reads_came, reads_weaker, refl, same_Some, same_leaf, shown_names, shown_tree, state_of, subst, sym, text_of, texts_differ, tree_of_row, true, true_from_ne_false, unclean, unclean_with, unsaved_here_at, unsaved_of, value_of, with_frag, with_objects, without_leaves, ℕ, ⊎_elim, ◌+◌, ◌<◌, ◌∙◌, ◌≡◌}
 use Rattle.std.specs.FinMap as map
 use Rattle.dentry_cache.specs.Came.Came.{has as arrives}
 use Rattle.mdcache.specs.Splits.{KeepsShownTree}
@@ -96,13 +96,13 @@ module _ (old mid : Core) (sound : IsSoundCore old) (a : Dirfrag) (merge : Merge
   dirty_is : (name : List ℕ) → map.get merge.joined.dirty name ≡ marked_as s.next_version (cond (holds a.frag (hash_of name)) (map.get (shown_tree s) (dentry_of a.dir.0 name)) None) None
   dirty_is name = ready.joined.dirty name ∙ joined_is s still.0 a.dir still.1 name s.next_version merge.plan.cover a.frag ready.planned.whole still.2 ready.planned.cover
 
-  shown_is : (name : List ℕ) → map.get (shown merge.joined) name ≡ cond (holds a.frag (hash_of name)) (map.get (shown_tree s) (dentry_of a.dir.0 name)) None
+  shown_is : (name : List ℕ) → map.get (shown_names merge.joined) name ≡ cond (holds a.frag (hash_of name)) (map.get (shown_tree s) (dentry_of a.dir.0 name)) None
   shown_is name =
       dirty_shows merge.joined.base merge.joined.clean (record { base = merge.joined.base; generation = merge.joined.generation; dirty = merge.joined.dirty }) s.next_version name (cond (holds a.frag (hash_of name)) (map.get (shown_tree s) (dentry_of a.dir.0 name)) None)
       ready.joined.fresh (dirty_is name)
 
   -- none of the leaves shows a name, if and only if the joined fragment shows none
-  found_in : (f : Fragment) (name : List ℕ) (inode : Inode) → HasLeaf gone f → map.get (names_of s.unsaved s.objects (a.dir, f)) name ≡ Some inode → map.get (shown merge.joined) name ≡ Some inode
+  found_in : (f : Fragment) (name : List ℕ) (inode : Inode) → HasLeaf gone f → map.get (names_of s.unsaved s.objects (a.dir, f)) name ≡ Some inode → map.get (shown_names merge.joined) name ≡ Some inode
   found_in f name inode has is =
       let both = has_inside a.frag f row has in
       let pick = still.0.placed (a.dir, f) name inode (record { known = still.1; stands = both.0 }) is in
@@ -110,7 +110,7 @@ module _ (old mid : Core) (sound : IsSoundCore old) (a : Dirfrag) (merge : Merge
       shown_is name
       ∙ ap (λ (b : Bool). cond b (map.get (shown_tree s) (dentry_of a.dir.0 name)) None) (sym (pick_inside row merge.plan.cover a.frag tree ready.planned.whole still.2 ready.planned.cover (hash_of name) f pick) ∙ both.1) ∙ tree_has
 
-  comes_from : (name : List ℕ) (inode : Inode) → map.get (shown merge.joined) name ≡ Some inode → (f : Fragment) × HasLeaf gone f × (map.get (names_of s.unsaved s.objects (a.dir, f)) name ≡ Some inode)
+  comes_from : (name : List ℕ) (inode : Inode) → map.get (shown_names merge.joined) name ≡ Some inode → (f : Fragment) × HasLeaf gone f × (map.get (names_of s.unsaved s.objects (a.dir, f)) name ≡ Some inode)
   comes_from name inode is =
       let found = holds_or_none (holds a.frag (hash_of name)) (map.get (shown_tree s) (dentry_of a.dir.0 name)) inode (sym (shown_is name) ∙ is) in
       let p = pick_at s (sound_leaves s still.0) (dentry_of a.dir.0 name) in (
@@ -122,15 +122,15 @@ module _ (old mid : Core) (sound : IsSoundCore old) (a : Dirfrag) (merge : Merge
   abbrev is_empty : Fragment → Bool
   is_empty f = has_none (names_of s.unsaved s.objects (a.dir, f))
 
-  empty_is : has_none (shown merge.joined) ≡ are_empty s a.dir gone
-  empty_is = both_ways (has_none (shown merge.joined)) (list_all is_empty gone)
+  empty_is : has_none (shown_names merge.joined) ≡ are_empty s a.dir gone
+  empty_is = both_ways (has_none (shown_names merge.joined)) (list_all is_empty gone)
       (λ none. true_from_ne_false (list_all is_empty gone) (λ fails.
       let f = some_fails is_empty gone fails in
       let w = some_name (names_of s.unsaved s.objects (a.dir, f.0)) f.2 in
-      let clash : None ≡ Some w.1 = sym (no_name (shown merge.joined) w.0 none) ∙ found_in f.0 w.0 w.1 f.1 w.2 in
+      let clash : None ≡ Some w.1 = sym (no_name (shown_names merge.joined) w.0 none) ∙ found_in f.0 w.0 w.1 f.1 w.2 in
       cc))
-      (λ all. true_from_ne_false (has_none (shown merge.joined)) (λ some.
-      let w = some_name (shown merge.joined) some in
+      (λ all. true_from_ne_false (has_none (shown_names merge.joined)) (λ some.
+      let w = some_name (shown_names merge.joined) some in
       let f = comes_from w.0 w.1 w.2 in
       let clash : None ≡ Some w.1 = sym (no_name (names_of s.unsaved s.objects (a.dir, f.0)) w.0 (all_pass is_empty gone all f.0 f.1)) ∙ f.2 in
       cc))
@@ -199,9 +199,9 @@ module _ (old mid : Core) (sound : IsSoundCore old) (a : Dirfrag) (merge : Merge
 
   -- ---- what is cached
 
-  filled_at : (q : Leaf) (y : Bool) (b : At) → leaf_is q leaf ≡ y → map.get made.caches.held q ≡ Some b → cond y (Some (at a.rank.0 merge.joined)) (map.get mid.caches.held q) ≡ Some b
+  filled_at : (q : Leaf) (y : Bool) (b : At) → leaf_is q leaf ≡ y → map.get made.caches.held q ≡ Some b → cond y (Some (lies_by a.rank.0 merge.joined)) (map.get mid.caches.held q) ≡ Some b
   filled_at q y b same is =
-      ap (λ (y : Bool). cond y (Some (at a.rank.0 merge.joined)) (map.get mid.caches.held q)) (sym same) ∙ sym (get_with_frag mid.caches a.rank.0 leaf merge.joined q)
+      ap (λ (y : Bool). cond y (Some (lies_by a.rank.0 merge.joined)) (map.get mid.caches.held q)) (sym same) ∙ sym (get_with_frag mid.caches a.rank.0 leaf merge.joined q)
       ∙ (still_held filled (leaves_in a.dir merge.plan.leaves.items) q b is).1
 
   -- ---- of what was before
@@ -227,7 +227,7 @@ module _ (old mid : Core) (sound : IsSoundCore old) (a : Dirfrag) (merge : Merge
           (λ q same came b is.
           let number = ready.joined.numbered in
           subst (λ (k : At). IsTied k.frag (object_of s.objects q.0 q.1) × (k.frag.generation < s.next_generation + 1))
-          (same_Some (at a.rank.0 merge.joined) b (filled_at q true b (same_leaf q leaf (λ i. (record { 0 = same i }, is_it q.1 came i))) is))
+          (same_Some (lies_by a.rank.0 merge.joined) b (filled_at q true b (same_leaf q leaf (λ i. (record { 0 = same i }, is_it q.1 came i))) is))
           (fresh_tied merge.joined (object_of s.objects q.0 q.1) ready.joined.fresh, omega (arith, number)))
           (λ q apart b is. filled_at q false b (apart_it q apart) is);
       none = subst (λ (k : Core). KeepsNone k.caches) left none;

@@ -1,5 +1,5 @@
 -- What a walk finds that meets no faulty object is a sound tree, and the one that is shown.
-use Rattle.mdcache.proofs.Common.{AllCachedIn, CacheMap, Core, Counts, Covers, DirPins, Homes, IfOk, IsColdTree, IsCounted, IsLive, IsMounted, IsNewTree, IsOwned, IsReached, IsReachedObject, IsRecord, IsSaved, IsSound, IsSoundCore, IsTabled, IsWalked, KeepsNone, Keys, List, Names, None, Objects, Record, Result, SaysLeaves, Some, State, Tree, allowed, ap, arith, belongs, eqb-true, hash_of, in_empty, inl, inr, is_cold, is_dir_kind, is_known, is_some, leaves_of, mounted, no_caches, object_of, or_cases, pick_from_leaf, refl, rules, said_tree, shown_in, shown_tree, state_of, subst, sym, text_of, tree_of, true, unclean, value_of, walked_is_tabled, ℕ, ⊎_elim, ◌<◌, ◌==◌, ◌^◌, ◌∙◌, ◌≡◌, ◌⊎◌}
+use Rattle.mdcache.proofs.Common.{AllCachedIn, CacheMap, Core, Counts, Covers, DirPins, Homes, IfOk, IsColdTree, IsCounted, IsLive, IsMounted, IsNewTree, HasOwner, IsReached, IsReachedObject, IsRecord, IsSaved, IsSound, IsSoundCore, IsTabled, IsWalked, KeepsNone, Keys, List, Names, None, Objects, Record, Result, SaysLeaves, Some, State, Tree, allowed, ap, arith, belongs, eqb-true, hash_of, in_empty, inl, inr, is_cold, is_dir_kind, is_known, is_some, leaves_of, mounted, no_caches, object_of, or_cases, pick_from_leaf, refl, rules, said_tree, shown_in, shown_tree, state_of, subst, sym, text_of, tree_object_of, true, unclean, value_of, walked_is_tabled, ℕ, ⊎_elim, ◌<◌, ◌==◌, ◌^◌, ◌∙◌, ◌≡◌, ◌⊎◌}
 use Rattle.std.specs.FinMap as map
 use Rattle.mds_types.specs.Leaf.{Leaf, leaf_cmp}
 pub use Rattle.cold_store.specs.Rows.{IsIn}
@@ -39,10 +39,10 @@ module _ (limit : ℕ) (objects : Objects) (tree : Tree) (homes : Homes) (covers
   saved leaf live = w.whole leaf (reached_there leaf.0.0 live.known) (cold_leaf s refl w.leaves leaf live)
 
   -- a tree object that is there says several leaves, so they were set
-  owned : (name : List ℕ) → is_some (map.get objects name) ≡ true → IsReachedObject objects name ⊎ (is_some (map.get purge name) ≡ true) → IsOwned s name
+  owned : (name : List ℕ) → is_some (map.get objects name) ≡ true → IsReachedObject objects name ⊎ (is_some (map.get purge name) ≡ true) → HasOwner s name
   owned name some (inl (inl (leaf, above, of, is))) = inl (leaf, live_leaf s refl w.leaves leaf (known_by objects tree homes covers purge w leaf.0.0 above) of, is)
   owned name some (inl (inr (dir, above, is))) =
-      let row = elim (tree_of objects dir) as (λ o. SaysLeaves o (leaves_of covers dir.0) → is_some o ≡ true → is_some (map.get covers dir.0) ≡ true) [
+      let row = elim (tree_object_of objects dir) as (λ o. SaysLeaves o (leaves_of covers dir.0) → is_some o ≡ true → is_some (map.get covers dir.0) ≡ true) [
         | None ↦ λ said some. absurd cc
         | Some object ↦ λ said some. several_in_row covers dir.0 said.several
       ] in
@@ -54,7 +54,7 @@ module _ (limit : ℕ) (objects : Objects) (tree : Tree) (homes : Homes) (covers
     table = (walked_is_tabled objects tree homes covers purge w).1;
     numbered = numbered;
     placed = λ leaf name inode live stands.
-        pick_from_leaf (leaves_of covers leaf.0.0) (hash_of name) leaf.1 (said_tree (tree_of objects leaf.0) (leaves_of covers leaf.0.0) (w.leaves leaf.0 live.known)) live.stands
+        pick_from_leaf (leaves_of covers leaf.0.0) (hash_of name) leaf.1 (said_tree (tree_object_of objects leaf.0) (leaves_of covers leaf.0.0) (w.leaves leaf.0 live.known)) live.stands
         (belongs leaf.1 (object_of objects leaf.0 leaf.1) name inode (saved leaf live) (ap (λ (n : Names). map.get n name) (sym (shown_as s refl w.leaves leaf)) ∙ stands));
     unsaved = λ leaf u is. in_empty leaf_cmp leaf u is;
     saved = λ leaf live clean. saved leaf live;

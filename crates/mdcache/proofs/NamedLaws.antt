@@ -1,8 +1,8 @@
 -- A name of a leaf gets an inode, or is removed: all but the table of directories is sound as before, and the tree has the name so.
-use Rattle.mdcache.proofs.Common.{AreYoung, Bool, Dentry, Fragment, Fresh, Homes, Inode, IsAsItStands, IsCounted, IsLeafAt, IsLive, IsOwned, IsPick, IsSaved, IsSound, IsStandingJob, IsTable, IsTabled, IsUnsaved, Job, Keeps, Leaf, List, Mark, Marks, Names, None, Omap, Option, Some, State, Stored, Tree, Unsaved, ap, arith, cond, dentry-exact, dentry-total, dirtied, false, false_from_ne_true, get-empty, get-insert, get_beside, get_put, hash_of, inl, inr, is_known, is_some, key_cmp, key_or_apart, leaf-total, leaf_is, leaf_itself, leaf_or_apart, leaves_of, marked_beside, marked_here, names_at, object_of, one_leaf, only_below, refl, rules, same_Some, same_leaf, same_map, shown_at, shown_over, shown_put, shown_tree, some_pick, subst, sym, text_of, tied_leaf, tree_of_row, true, with_mark, with_name, ℕ, ⊎_elim, ◌<◌, ◌^◌, ◌∙◌, ◌≡◌, ◌⊎◌}
+use Rattle.mdcache.proofs.Common.{AreYoung, Bool, Dentry, Fragment, Fresh, Homes, Inode, IsAsItStands, IsCounted, IsDentryLeaf, IsLive, HasOwner, IsPick, IsSaved, IsSound, IsStandingJob, IsTable, IsTabled, IsUnsaved, Job, Keeps, Leaf, List, Mark, Marks, Names, None, Omap, Option, Some, State, Stored, Tree, Unsaved, ap, arith, cond, dentry-exact, dentry-total, dirtied, false, false_from_ne_true, get-empty, get-insert, get_beside, get_put, hash_of, inl, inr, is_known, is_some, key_cmp, key_or_apart, leaf-total, leaf_is, leaf_itself, leaf_or_apart, leaves_of, marked_beside, marked_here, names_at, object_of, one_leaf, only_below, refl, rules, same_Some, same_leaf, same_map, shown_at, shown_over, shown_put, shown_tree, some_pick, subst, sym, text_of, tied_leaf, tree_of_row, true, with_changed_name, with_name, ℕ, ⊎_elim, ◌<◌, ◌^◌, ◌∙◌, ◌≡◌, ◌⊎◌}
 use Rattle.std.specs.FinMap as map
 use Rattle.mds_types.proofs.EntryLaws.{get_put as get_dentry, get_beside as get_other_dentry, get_removed, get_left as get_left_dentry, same_or_apart}
-use Rattle.dentry_cache.specs.Ties.{KeepsAt}
+use Rattle.dentry_cache.specs.Ties.{IsStillDirty}
 use Rattle.mdcache.specs.Changes.{IsCountedObject}
 use Rattle.mdcache.specs.Shown.{names_of}
 use Rattle.mdcache.proofs.ShownLaws.{found_at, found_nowhere}
@@ -15,7 +15,7 @@ pub record HasSoundLeaves (s : State) : Type 0 where
   pub placed : (leaf : Leaf) (name : List ℕ) (inode : Inode) → IsLive s.homes s.covers leaf → map.get (names_of s.unsaved s.objects leaf) name ≡ Some inode → IsPick (leaves_of s.covers leaf.0.0) (hash_of name) leaf.1
   pub unsaved : (leaf : Leaf) (u : Unsaved) → map.get s.unsaved leaf ≡ Some u → IsUnsaved s leaf u
   pub saved : (leaf : Leaf) → IsLive s.homes s.covers leaf → map.get s.unsaved leaf ≡ None → IsSaved leaf.1 (object_of s.objects leaf.0 leaf.1)
-  pub owned : (name : List ℕ) → is_some (map.get s.objects name) ≡ true → IsOwned s name
+  pub owned : (name : List ℕ) → is_some (map.get s.objects name) ≡ true → HasOwner s name
   pub listed : (leaf : Leaf) → IsLive s.homes s.covers leaf → map.get s.purge (text_of leaf) ≡ None
   pub standing : (leaf : Leaf) (job : Job) → map.get s.jobs leaf ≡ Some job → IsStandingJob s leaf job
   pub once : (a b : Leaf) (i j : Job) → map.get s.jobs a ≡ Some i → map.get s.jobs b ≡ Some j → i.number ≡ j.number → a ≡ b
@@ -33,7 +33,7 @@ module _ (s : State) (sound : HasSoundLeaves s) where
   pick_at q = some_pick (leaves_of s.covers q.dir.0) (hash_of q.name) (tree_of_row s.homes s.covers sound.table q.dir.0)
 
   -- a dentry of a directory that is known
-  pub stands_at : (q : Dentry) (f : Fragment) → is_known s.homes q.dir.0 ≡ true → IsLeafAt s.covers q f → map.get (shown_tree s) q ≡ map.get (names_of s.unsaved s.objects (q.dir, f)) q.name
+  pub stands_at : (q : Dentry) (f : Fragment) → is_known s.homes q.dir.0 ≡ true → IsDentryLeaf s.covers q f → map.get (shown_tree s) q ≡ map.get (names_of s.unsaved s.objects (q.dir, f)) q.name
   stands_at q f known pick = found_at (names_of s.unsaved s.objects) s.homes s.covers q.dir.0 q.name f known pick.stands (λ g inode stands has.
       pick.alone g stands (sound.placed (q.dir, g) q.name inode (record { known = known; stands = stands }) has).contains)
 
@@ -62,7 +62,7 @@ as_it_shows : (o : Option Unsaved) (object : Option Omap) (next : ℕ) (u : Unsa
 as_it_shows (Some v) object next u is = ap (λ (w : Unsaved). shown_over w.base (names_at object) w.dirty) is
 as_it_shows None object next u is = elim u.base as (λ b. IsCountedObject b object → shown_over b (names_at object) u.dirty ≡ names_at object) [ Fresh ↦ λ h. absurd h | Stored version ↦ λ h. only_below (names_at object) u.dirty is.1 ] is.0
 
-module _ (s : State) (sound : HasSoundLeaves s) (dentry : Dentry) (f : Fragment) (inode : Option Inode) (live : IsLive s.homes s.covers (dentry.dir, f)) (pick : IsLeafAt s.covers dentry f)
+module _ (s : State) (sound : HasSoundLeaves s) (dentry : Dentry) (f : Fragment) (inode : Option Inode) (live : IsLive s.homes s.covers (dentry.dir, f)) (pick : IsDentryLeaf s.covers dentry f)
     (u : Unsaved) (stands : IsAsItStands (map.get s.unsaved (dentry.dir, f)) (object_of s.objects dentry.dir f) s.next_generation u) where
   abbrev pub leaf : Leaf
   leaf = (dentry.dir, f)
@@ -84,12 +84,12 @@ module _ (s : State) (sound : HasSoundLeaves s) (dentry : Dentry) (f : Fragment)
 
   -- what is shown
 
-  shows_here : names_of t.unsaved t.objects leaf ≡ with_mark (names_of s.unsaved s.objects leaf) dentry.name inode
+  shows_here : names_of t.unsaved t.objects leaf ≡ with_changed_name (names_of s.unsaved s.objects leaf) dentry.name inode
   unfolding names_of
   shows_here =
       ap (λ o. shown_at o (object_of s.objects dentry.dir f)) unsaved_here
       ∙ shown_put u.base (names_at (object_of s.objects dentry.dir f)) u.dirty v.dirty dentry.name (record { version = s.next_version; inode = inode }) refl
-      ∙ ap (λ (n : Names). with_mark n dentry.name inode) (as_it_shows (map.get s.unsaved leaf) (object_of s.objects dentry.dir f) s.next_generation u stands)
+      ∙ ap (λ (n : Names). with_changed_name n dentry.name inode) (as_it_shows (map.get s.unsaved leaf) (object_of s.objects dentry.dir f) s.next_generation u stands)
 
   pub shows_beside : (q : Leaf) → leaf_is q leaf ≡ false → names_of t.unsaved t.objects q ≡ names_of s.unsaved s.objects q
   shows_beside q apart = names_alike s t q (unsaved_beside q apart) refl
@@ -140,10 +140,10 @@ module _ (s : State) (sound : HasSoundLeaves s) (dentry : Dentry) (f : Fragment)
 
   keeps : (job : Job) → Keeps u.dirty job.snapshot.names → AreYoung job.snapshot.names s.next_version → Keeps v.dirty job.snapshot.names
   keeps job old young name = ⊎_elim
-      (λ same. subst (λ o. KeepsAt o (map.get job.snapshot.names name)) (sym (ap (map.get v.dirty) same ∙ get_put u.dirty dentry.name _)) (new (map.get job.snapshot.names name) refl))
-      (λ apart. subst (λ o. KeepsAt o (map.get job.snapshot.names name)) (sym (get_beside u.dirty dentry.name _ name apart)) (old name)) (key_or_apart name dentry.name)
+      (λ same. subst (λ o. IsStillDirty o (map.get job.snapshot.names name)) (sym (ap (map.get v.dirty) same ∙ get_put u.dirty dentry.name _)) (new (map.get job.snapshot.names name) refl))
+      (λ apart. subst (λ o. IsStillDirty o (map.get job.snapshot.names name)) (sym (get_beside u.dirty dentry.name _ name apart)) (old name)) (key_or_apart name dentry.name)
     where
-      new : (o : Option Mark) → map.get job.snapshot.names name ≡ o → KeepsAt (Some (record { version = s.next_version; inode = inode })) o
+      new : (o : Option Mark) → map.get job.snapshot.names name ≡ o → IsStillDirty (Some (record { version = s.next_version; inode = inode })) o
       new None is = tt
       new (Some then) is = λ same. absurd (omega (arith, young name then is, same))
 

@@ -1,5 +1,5 @@
 -- The state over an empty store is sound.
-use Rattle.mdcache.proofs.Common.{AllCachedIn, Bool, Contains, Core, Covers, Homes, IsCounted, IsFree, IsLive, IsSound, IsSoundCore, IsTable, IsTabled, IsUnsaved, KeepsNone, Leaf, Mark, Names, None, Omap, Option, Some, State, Unsaved, UnsavedLeaves, [], ap, arith, cached_root, cond, cond_some, dentry-exact, dentry-total, dentry_cmp, directories, empty_tabled, entries_in, entries_of, entries_under, eqb-true, false, get-empty, get-from_entries, get-insert, get_unclean, is_known, is_some, key_cmp, leaf-total, leaf_is, leaf_itself, leaves_of, len-empty, list_any, nat_cmp, new_caches, new_root, new_tree_state, no_caches, none_counted, none_entries, none_with_frag, object_of, one_leaf, or_cases, or_whole, refl, replicate, root_fragment, root_leaf, same_map, shown_at, shown_tree, state_of, subst, suc, sym, text_of, tied_leaf, true, unclean, unclean_with, unsaved_at, zero, ℕ, ⊎_elim, ◌++◌, ◌==◌, ◌||◌, ◌∙◌, ◌∷◌, ◌≡◌}
+use Rattle.mdcache.proofs.Common.{AllCachedIn, Bool, Contains, Core, Covers, Homes, IsCounted, IsFree, IsLive, IsSound, IsSoundCore, IsTable, IsTabled, IsUnsaved, KeepsNone, Leaf, Mark, Names, None, Omap, Option, Some, State, Unsaved, UnsavedLeaves, [], ap, arith, cached_root, cond, cond_some, dentry-exact, dentry-total, dentry_cmp, directories, empty_tabled, dentries_in, entries_of, entries_under, eqb-true, false, get-empty, get-from_entries, get-insert, get_unclean, is_known, is_some, key_cmp, leaf-total, leaf_is, leaf_itself, leaves_of, len-empty, list_any, nat_cmp, new_caches, new_root, new_tree_state, no_caches, none_counted, none_entries, none_with_frag, object_of, one_leaf, or_cases, or_whole, refl, replicate, root_fragment, root_leaf, same_map, shown_at, shown_tree, state_of, subst, suc, sym, text_of, tied_leaf, true, unclean, unclean_with, unsaved_at, zero, ℕ, ⊎_elim, ◌++◌, ◌==◌, ◌||◌, ◌∙◌, ◌∷◌, ◌≡◌}
 use Rattle.std.specs.Prelude.{get_or, map as each}
 use Rattle.std.specs.FinMap as map
 use Rattle.dentry_cache.specs.Cache.{leaf_cmp}
@@ -58,10 +58,10 @@ module _ (limit : ℕ) where
   unfolding names_of
   no_names = ap (λ u. shown_at u (object_of (new_tree_state limit).objects root_leaf.0 root_leaf.1)) root_unsaved ∙ nothing_patched map.empty map.empty (len-empty key_cmp Mark)
 
-  no_entries : entries_in (names_of (new_tree_state limit).unsaved (new_tree_state limit).objects) no_covers (directories no_homes) ≡ []
+  no_entries : dentries_in (names_of (new_tree_state limit).unsaved (new_tree_state limit).objects) no_covers (directories no_homes) ≡ []
   no_entries =
       let names = names_of (new_tree_state limit).unsaved (new_tree_state limit).objects in
-      ap (λ ks. entries_in names no_covers (1 ∷ each (λ e. e.0) ks)) (none_entries no_homes refl)
+      ap (λ ks. dentries_in names no_covers (1 ∷ each (λ e. e.0) ks)) (none_entries no_homes refl)
       ∙ ap (λ fs. entries_under names 1 fs ++ []) (one_leaf_each 1)
       ∙ ap (λ (n : Names). (entries_of 1 (map.entries n) ++ []) ++ []) no_names
       ∙ ap (λ es. (entries_of 1 es ++ []) ++ []) (none_entries {R = key_cmp} map.empty refl)

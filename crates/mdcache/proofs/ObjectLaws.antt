@@ -1,5 +1,5 @@
 -- A purge and a commit of a directory's tree change no object of a live leaf.
-use Rattle.mdcache.proofs.Common.{AllCachedIn, Bool, CacheMap, Fragment, Ino, IsLive, IsOwned, IsSound, Keys, Leaf, List, None, Objects, Omap, Option, PairMap, Some, State, WriteOp, [], ap, applied-by-parts, cond, cond_both, empty_omap, eq_by_cmp, exact_bytes, false, find, first_name, get-empty, get-entries, get-without_keys, get_beside, get_left, get_put, get_removed, inl, inr, is_known, is_some, key_cmp, key_itself, key_or_apart, leaves_of, length, ltb-true, nat_list_cmp_total, nat_lt, object_of, option_map, overlaid-empty, purged, refl, rules, same_Some, same_map, shown_tree, slice_get, subst, sym, text_of, tree_object, tree_saved, tree_text, true, unwrap_or, with_tree_at, without_keys, ℕ, ⊎_elim, ◌<◌, ◌∙◌, ◌∷◌, ◌≡◌}
+use Rattle.mdcache.proofs.Common.{AllCachedIn, Bool, CacheMap, Fragment, Ino, IsLive, HasOwner, IsSound, Keys, Leaf, List, None, Objects, Omap, Option, PairMap, Some, State, WriteOp, [], ap, applied-by-parts, cond, cond_both, empty_omap, eq_by_cmp, exact_bytes, false, find, first_name, get-empty, get-entries, get-without_keys, get_beside, get_left, get_put, get_removed, inl, inr, is_known, is_some, key_cmp, key_itself, key_or_apart, leaves_of, length, ltb-true, nat_list_cmp_total, nat_lt, object_of, option_map, overlaid-empty, purged, refl, rules, same_Some, same_map, shown_tree, slice_get, subst, sym, text_of, tree_object, tree_saved, tree_text, true, unwrap_or, with_tree_at, without_keys, ℕ, ⊎_elim, ◌<◌, ◌∙◌, ◌∷◌, ◌≡◌}
 use Rattle.std.specs.FinMap as map
 use Rattle.objstore.specs.Objects.{written}
 use Rattle.mdcache.proofs.CoverRows.{several_in_row}
@@ -29,17 +29,17 @@ module _ (s : State) (name : List ℕ) (objects : Objects) (sound : IsSound s) (
   after = record s { objects = objects; purge = map.remove s.purge name }
 
   -- what owns another object owns it still
-  owned_beside : (q : List ℕ) → (q ≡ name → ⊥) → IsOwned s q → IsOwned after q
+  owned_beside : (q : List ℕ) → (q ≡ name → ⊥) → HasOwner s q → HasOwner after q
   owned_beside q apart owned = ⊎_elim (λ leaf. inl leaf) (λ rest. ⊎_elim (λ tree. inr (inl tree)) (λ listed. inr (inr (ap is_some (get_left s.purge name q apart) ∙ listed))) rest) owned
 
-  other_changed : (is_some (map.get objects name) ≡ true → IsOwned after name) → KeepsLeaves s after
+  other_changed : (is_some (map.get objects name) ≡ true → HasOwner after name) → KeepsLeaves s after
   other_changed owned =
       let same : (leaf : Leaf) → IsLive s.homes s.covers leaf → object_of objects leaf.0 leaf.1 ≡ object_of s.objects leaf.0 leaf.1 = λ leaf live. beside (text_of leaf) (not_live leaf live) in
       record {
         objects = same;
         tree = other_objects_tree s objects (map.remove s.purge name) sound same;
         sound = other_objects s objects (map.remove s.purge name) sound same
-            (λ q has. ⊎_elim (λ one. subst (IsOwned after) (sym one) (owned (subst (λ (n : List ℕ). is_some (map.get objects n) ≡ true) one has)))
+            (λ q has. ⊎_elim (λ one. subst (HasOwner after) (sym one) (owned (subst (λ (n : List ℕ). is_some (map.get objects n) ≡ true) one has)))
             (λ apart. owned_beside q apart (sound.owned q (ap is_some (sym (beside q apart)) ∙ has))) (key_or_apart q name))
             (λ leaf live. get_left s.purge name (text_of leaf) (not_live leaf live) ∙ sound.listed leaf live);
         cached = other_objects_kept s objects (map.remove s.purge name) sound same;

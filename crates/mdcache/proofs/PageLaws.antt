@@ -1,5 +1,5 @@
 -- What a page gathers, name by name.
-use Rattle.mdcache.proofs.Common.{Bool, Equal, Gathered, Greater, Inode, IsAt, IsBeyond, IsGap, IsPageOf, IsTotalOrder, Less, List, Ordering, Row, T, TakesRow, [], ap, arith, below_all, by_order, cond, drop, false, get_or, insert, is_lt, is_sorted-put, key_cmp, left_of, length, length-insert, length-set, length-take, less, nat_list_cmp_total, nat_tests, put, put_at, put_gap, puts, refl, right_of, rules, subst, suc, sym, take, take-append-drop, take_all, true, turned, zero, ℕ, ◌||◌, ◌∙◌, ◌∷◌, ◌≡◌, ◌≤◌}
+use Rattle.mdcache.proofs.Common.{Bool, Equal, Gathered, Greater, Inode, IsKeyAt, IsBeyond, IsGap, IsPageOf, IsTotalOrder, Less, List, Ordering, NamedInode, T, TakesRow, [], ap, arith, below_all, by_order, cond, drop, false, get_or, insert, is_lt, is_sorted-put, key_cmp, left_of, length, length-insert, length-set, length-take, less, nat_list_cmp_total, nat_tests, put, put_at, put_gap, puts, refl, right_of, rules, subst, suc, sym, take, take-append-drop, take_all, true, turned, zero, ℕ, ◌||◌, ◌∙◌, ◌∷◌, ◌≡◌, ◌≤◌}
 use Rattle.std.proofs.Common.{set, nat_lt}
 use Rattle.std.specs.FinMap.Entries.{is_sorted}
 use Rattle.sorted_map.proofs.HomeLaws.{sorted_front}
@@ -63,14 +63,14 @@ module _ {K V : Type 0} {R : K → K → Ordering} (o : IsTotalOrder R) where
 -- ---- pages
 
 -- a page that takes in a name is the page of all names with it
-pub taken_in : (whole : List Row) (row : Row) (old new : Gathered) → TakesRow row old new → IsPageOf whole old → IsPageOf (put key_cmp row.0 row.1 whole) new
+pub taken_in : (whole : List NamedInode) (row : NamedInode) (old new : Gathered) → TakesRow row old new → IsPageOf whole old → IsPageOf (put key_cmp row.0 row.1 whole) new
 taken_in whole row old new takes page = record {
   rows = takes.rows ∙ ap (λ xs. take old.most (put key_cmp row.0 row.1 xs)) page.rows ∙ take_put key_cmp old.most row.0 row.1 whole ∙ ap (λ n. take n (put key_cmp row.0 row.1 whole)) (sym takes.most);
   more = takes.more ∙ (λ i. page.more i || nat_lt old.most (length (put key_cmp row.0 row.1 (page.rows i)))) ∙ more_put key_cmp old.most row.0 row.1 whole ∙ ap (λ n. nat_lt n (length (put key_cmp row.0 row.1 whole))) (sym takes.most);
 }
 
 -- names that are beyond a page leave it
-pub left_out : (rest whole : List Row) (name : List ℕ) (page : Gathered) → IsBeyond name page → T (below_all key_cmp name rest) → IsPageOf whole page → IsPageOf (puts key_cmp whole rest) page
+pub left_out : (rest whole : List NamedInode) (name : List ℕ) (page : Gathered) → IsBeyond name page → T (below_all key_cmp name rest) → IsPageOf whole page → IsPageOf (puts key_cmp whole rest) page
 left_out [] whole name page beyond below is = is
 left_out (row ∷ rest) whole name page beyond below is =
     let past = gap_past nat_list_cmp_total name row.0 page.most page.rows (less (key_cmp name row.0) (left_of (is_lt (key_cmp name row.0)) (below_all key_cmp name rest) below)) beyond.full beyond.less in
@@ -83,8 +83,8 @@ left_out (row ∷ rest) whole name page beyond below is =
     })
 
 -- the next of a leaf's names is taken in, and the others are left
-pub next_taken : (row : Row) (names rest now names' whole : List Row) (old new : Gathered) → names ≡ row ∷ rest → TakesRow row old new → IsPageOf now old → puts key_cmp now names ≡ puts key_cmp whole names' → T (is_sorted key_cmp names)
-    → (x : List Row) × IsPageOf x new × (puts key_cmp x rest ≡ puts key_cmp whole names') × T (is_sorted key_cmp rest)
+pub next_taken : (row : NamedInode) (names rest now names' whole : List NamedInode) (old new : Gathered) → names ≡ row ∷ rest → TakesRow row old new → IsPageOf now old → puts key_cmp now names ≡ puts key_cmp whole names' → T (is_sorted key_cmp names)
+    → (x : List NamedInode) × IsPageOf x new × (puts key_cmp x rest ≡ puts key_cmp whole names') × T (is_sorted key_cmp rest)
 next_taken row names rest now names' whole old new is takes page same sorted = (
   put key_cmp row.0 row.1 now,
   taken_in now row old new takes page,
@@ -93,7 +93,7 @@ next_taken row names rest now names' whole old new is takes page same sorted = (
 )
 
 -- the leaf is left, and its other names with it
-pub leaf_left : (row : Row) (names rest now names' whole : List Row) (old new : Gathered) → names ≡ row ∷ rest → TakesRow row old new → IsBeyond row.0 new → IsPageOf now old → puts key_cmp now names ≡ puts key_cmp whole names' → T (is_sorted key_cmp names)
+pub leaf_left : (row : NamedInode) (names rest now names' whole : List NamedInode) (old new : Gathered) → names ≡ row ∷ rest → TakesRow row old new → IsBeyond row.0 new → IsPageOf now old → puts key_cmp now names ≡ puts key_cmp whole names' → T (is_sorted key_cmp names)
     → IsPageOf (puts key_cmp whole names') new
 leaf_left row names rest now names' whole old new is takes beyond page same sorted =
     subst (λ xs. IsPageOf xs new) (ap (puts key_cmp now) (sym is) ∙ same)
@@ -106,37 +106,37 @@ marked : (more gone : Bool) → cond gone true more ≡ (more || gone)
 marked more gone = search rules
 
 -- what a page keeps of its rows
-abbrev AreKept : List Row → ℕ → Type 0
+abbrev AreKept : List NamedInode → ℕ → Type 0
 AreKept rows most = T (is_sorted key_cmp rows) × (length rows ≤ most)
 
-module _ (name : List ℕ) (inode : Inode) (rows : List Row) (more : Bool) (most : ℕ) (kept : AreKept rows most) (page : Gathered) (view : ◌≡◌ {A = Gathered} (record { rows = rows; more = more; most = most }) page) where
-  abbrev with_row : List Row
+module _ (name : List ℕ) (inode : Inode) (rows : List NamedInode) (more : Bool) (most : ℕ) (kept : AreKept rows most) (page : Gathered) (view : ◌≡◌ {A = Gathered} (record { rows = rows; more = more; most = most }) page) where
+  abbrev with_row : List NamedInode
   with_row = put key_cmp name inode rows
 
   -- the page takes the name in, with these rows, and keeps what it keeps of them
-  abbrev TakesWith : List Row → Bool → Type 0
+  abbrev TakesWith : List NamedInode → Bool → Type 0
   TakesWith new more' = TakesRow (name, inode) page (record { rows = new; more = more'; most = most }) × AreKept new most
 
-  takes_by : (new : List Row) (gone : Bool) → new ≡ take most with_row → nat_lt most (length with_row) ≡ gone → TakesWith new (cond gone true more)
+  takes_by : (new : List NamedInode) (gone : Bool) → new ≡ take most with_row → nat_lt most (length with_row) ≡ gone → TakesWith new (cond gone true more)
   takes_by new gone is over = (
     subst (λ (p : Gathered). TakesRow (name, inode) p (record { rows = new; more = cond gone true more; most = most })) view (record { most = refl; rows = is; more = marked more gone ∙ ap (λ b. more || b) (sym over) }),
     subst (λ xs. AreKept xs most) (sym is) (sorted_taken key_cmp most with_row (is_sorted-put key_cmp nat_list_cmp_total name inode rows kept.0), omega (arith, length-take most with_row)),
   )
 
   -- with fewer rows it does so too
-  pub kept_taken : (n : ℕ) (new : List Row) → new ≡ take n rows → AreKept new most
+  pub kept_taken : (n : ℕ) (new : List NamedInode) → new ≡ take n rows → AreKept new most
   kept_taken n new is = let within = kept.1 in subst (λ xs. AreKept xs most) (sym is) (sorted_taken key_cmp n rows kept.0, omega (arith, length-take n rows, within))
 
   -- the name stands there, and gets another inode
-  pub set_takes : (seen new : List Row) (at : ℕ) (value : Inode) → seen ≡ rows → IsAt key_cmp name seen at → value ≡ inode → ((d : Row) → new ≡ set rows at ((get_or rows at d).0, value)) → TakesWith new more
+  pub set_takes : (seen new : List NamedInode) (at : ℕ) (value : Inode) → seen ≡ rows → IsKeyAt key_cmp name seen at → value ≡ inode → ((d : NamedInode) → new ≡ set rows at ((get_or rows at d).0, value)) → TakesWith new more
   set_takes seen new at value is_seen there copied is =
-      let stands = put_at key_cmp name inode rows at (name, inode) (subst (λ xs. IsAt key_cmp name xs at) is_seen there) in
+      let stands = put_at key_cmp name inode rows at (name, inode) (subst (λ xs. IsKeyAt key_cmp name xs at) is_seen there) in
       let long : length with_row ≡ length rows = ap length stands ∙ length-set rows at ((get_or rows at (name, inode)).0, inode) in
       let within = kept.1 in
       takes_by new false (is (name, inode) ∙ ap (λ x. set rows at ((get_or rows at (name, inode)).0, x)) copied ∙ sym stands ∙ sym (take_all most with_row (omega (arith, long, within)))) (grind (arith, nat_tests))
 
   -- the name would go to a place
-  module _ (seen : List Row) (at : ℕ) (is_seen : seen ≡ rows) (gap : IsGap key_cmp name seen at) (within : at ≤ length seen) where
+  module _ (seen : List NamedInode) (at : ℕ) (is_seen : seen ≡ rows) (gap : IsGap key_cmp name seen at) (within : at ≤ length seen) where
     here : IsGap key_cmp name rows at
     here = subst (λ xs. IsGap key_cmp name xs at) is_seen gap
 
@@ -155,7 +155,7 @@ module _ (name : List ℕ) (inode : Inode) (rows : List Row) (more : Bool) (most
         takes_by rows true (sym all ∙ sym (put_beyond key_cmp most name inode rows (ap length all ∙ full) (subst (λ xs. IsGap key_cmp name xs most) (sym all) (subst (λ n. IsGap key_cmp name rows n) last here)))) (grind (arith, nat_tests))
 
     -- within the page
-    pub placed_takes : (new : List Row) (row : Row) (n : ℕ) → row ≡ (name, inode) → n ≡ most → new ≡ take n (insert rows at row) → (over : Bool)
+    pub placed_takes : (new : List NamedInode) (row : NamedInode) (n : ℕ) → row ≡ (name, inode) → n ≡ most → new ≡ take n (insert rows at row) → (over : Bool)
         → over ≡ nat_lt n (length (insert rows at row)) → (gone : Bool) → over ≡ gone → TakesWith new (cond gone true more)
     placed_takes new row n copied bound is over told gone same =
         let put : insert rows at row ≡ with_row = ap (insert rows at) copied ∙ sym put_is in

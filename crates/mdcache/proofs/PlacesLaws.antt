@@ -1,5 +1,5 @@
 -- The leaves that aren't clean, as they are listed: each is so at its rank, no two are one, and where none is listed all is clean.
-use Rattle.mdcache.proofs.Common.{AllByRecursion, AreOfOtherLeaves, AreCaches, At, CacheMap, Dirfrag, IsFree, IsUncleanAt, Leaf, List, None, NotAmong, Option, Some, [], ap, arith, at_rank, cond, cond_both, eq-eqb, false, get-empty, get_or, get_unclean, here, is_some, leaf-exact, leaf_is, leaf_of, leaves_at, length, length-append, length-take, list_any, map-append, nil_from_length, or_cases, refl, rules, same_map, subst, suc, sym, take, take-map, true, unclean, unclean_among, unclean_from, unclean_places, unsaved_at, unsaved_in, zero, ℕ, ⊎_elim, ◌++◌, ◌+◌, ◌<◌, ◌∙◌, ◌∷◌, ◌≡◌, ◌≤◌}
+use Rattle.mdcache.proofs.Common.{AllByRecursion, AreOfOtherLeaves, AreCaches, At, CacheMap, Dirfrag, IsFree, IsUncleanAt, Leaf, List, None, NotAmong, Option, Some, [], ap, arith, at_rank, cond, cond_both, eq-eqb, false, get-empty, get_or, get_unclean, here, is_some, leaf-exact, leaf_is, leaf_of, leaves_of_places, length, length-append, length-take, list_any, map-append, nil_from_length, or_cases, refl, rules, same_map, subst, suc, sym, take, take-map, true, unclean, unclean_among, unclean_from, unclean_places, unsaved_at, unsaved_in, zero, ℕ, ⊎_elim, ◌++◌, ◌+◌, ◌<◌, ◌∙◌, ◌∷◌, ◌≡◌, ◌≤◌}
 use Rattle.std.specs.List.{IsDistinct}
 use Rattle.std.specs.FinMap as map
 use Rattle.mds_types.proofs.LeafLaws.{leaf-total, one_leaf, same_leaf}
@@ -59,38 +59,38 @@ module _ (c : CacheMap) where
     | Some x ↦ λ is first second. sym first ∙ second
   ] refl this.holds.alone (subst (λ q. IsFree b.rank.0 (map.get c.held q)) same that.holds.alone)
 
-  not_in : (r : ℕ) (q : Leaf) (leaves : List Leaf) → AllByRecursion (λ y. leaf_is q y ≡ false) leaves → NotAmong q (leaves_at (unclean_among c r leaves))
+  not_in : (r : ℕ) (q : Leaf) (leaves : List Leaf) → AllByRecursion (λ y. leaf_is q y ≡ false) leaves → NotAmong q (leaves_of_places (unclean_among c r leaves))
   not_in r q [] others = tt
-  not_in r q (y ∷ leaves) (other, others) = cond_both (is_some (unsaved_in (here c r y))) (place_at r y ∷ unclean_among c r leaves) (unclean_among c r leaves) (λ places. NotAmong q (leaves_at places))
+  not_in r q (y ∷ leaves) (other, others) = cond_both (is_some (unsaved_in (here c r y))) (place_at r y ∷ unclean_among c r leaves) (unclean_among c r leaves) (λ places. NotAmong q (leaves_of_places places))
       (λ dirty. ((λ same. let clash : true ≡ false = sym (same_leaf q y (sym same)) ∙ other in cc), not_in r q leaves others)) (λ clean. not_in r q leaves others)
 
-  among_apart : (r : ℕ) (leaves : List Leaf) → IsDistinct leaf_is leaves → AreOfOtherLeaves (leaves_at (unclean_among c r leaves))
+  among_apart : (r : ℕ) (leaves : List Leaf) → IsDistinct leaf_is leaves → AreOfOtherLeaves (leaves_of_places (unclean_among c r leaves))
   unfolding IsDistinct
   among_apart r [] distinct = tt
-  among_apart r (q ∷ leaves) (others, distinct) = cond_both (is_some (unsaved_in (here c r q))) (place_at r q ∷ unclean_among c r leaves) (unclean_among c r leaves) (λ places. AreOfOtherLeaves (leaves_at places))
+  among_apart r (q ∷ leaves) (others, distinct) = cond_both (is_some (unsaved_in (here c r q))) (place_at r q ∷ unclean_among c r leaves) (unclean_among c r leaves) (λ places. AreOfOtherLeaves (leaves_of_places places))
       (λ dirty. (not_in r q leaves others, among_apart r leaves distinct)) (λ clean. among_apart r leaves distinct)
 
-  crosses : (r : ℕ) (a : Dirfrag) → IsUncleanAt c a → a.rank.0 ≡ r → (bs : List Dirfrag) → AllByRecursion (λ (b : Dirfrag). IsUncleanAt c b × (r + 1 ≤ b.rank.0)) bs → NotAmong (leaf_of a) (leaves_at bs)
+  crosses : (r : ℕ) (a : Dirfrag) → IsUncleanAt c a → a.rank.0 ≡ r → (bs : List Dirfrag) → AllByRecursion (λ (b : Dirfrag). IsUncleanAt c b × (r + 1 ≤ b.rank.0)) bs → NotAmong (leaf_of a) (leaves_of_places bs)
   crosses r a this at [] all = tt
   crosses r a this at (b ∷ bs) ((that, later), all) = ((λ same. let one = one_rank a b this that same in absurd (omega (arith, one, at, later))), crosses r a this at bs all)
 
-  each_crosses : (r : ℕ) (these bs : List Dirfrag) → AllByRecursion (λ (a : Dirfrag). IsUncleanAt c a × (a.rank.0 ≡ r)) these → AllByRecursion (λ (b : Dirfrag). IsUncleanAt c b × (r + 1 ≤ b.rank.0)) bs → AllByRecursion (λ (x : Leaf). NotAmong x (leaves_at bs)) (leaves_at these)
+  each_crosses : (r : ℕ) (these bs : List Dirfrag) → AllByRecursion (λ (a : Dirfrag). IsUncleanAt c a × (a.rank.0 ≡ r)) these → AllByRecursion (λ (b : Dirfrag). IsUncleanAt c b × (r + 1 ≤ b.rank.0)) bs → AllByRecursion (λ (x : Leaf). NotAmong x (leaves_of_places bs)) (leaves_of_places these)
   each_crosses r [] bs all more = tt
   each_crosses r (a ∷ these) bs ((this, at), all) more = (crosses r a this at bs more, each_crosses r these bs all more)
 
-  from_apart : (r : ℕ) (used : List (List Leaf)) → r + length used ≤ length c.used → AllByRecursion (IsDistinct leaf_is) used → AreOfOtherLeaves (leaves_at (unclean_from c r used))
+  from_apart : (r : ℕ) (used : List (List Leaf)) → r + length used ≤ length c.used → AllByRecursion (IsDistinct leaf_is) used → AreOfOtherLeaves (leaves_of_places (unclean_from c r used))
   from_apart r [] within distinct = tt
   from_apart r (leaves ∷ used) within (one, distinct) =
       subst AreOfOtherLeaves (sym (map-append (λ (a : Dirfrag). leaf_of a) (unclean_among c r leaves) (unclean_from c (r + 1) used)))
-      (apart_append (leaves_at (unclean_among c r leaves)) (leaves_at (unclean_from c (r + 1) used)) (among_apart r leaves one) (from_apart (r + 1) used (omega (arith, within)) distinct)
+      (apart_append (leaves_of_places (unclean_among c r leaves)) (leaves_of_places (unclean_from c (r + 1) used)) (among_apart r leaves one) (from_apart (r + 1) used (omega (arith, within)) distinct)
       (each_crosses r (unclean_among c r leaves) (unclean_from c (r + 1) used) (among_all r (omega (arith, within)) leaves) (from_all (r + 1) used (omega (arith, within)))))
 
   each_order : (used : List (List Leaf)) → ((r : ℕ) → IsDistinct leaf_is (get_or used r [])) → AllByRecursion (IsDistinct leaf_is) used
   each_order [] distinct = tt
   each_order (leaves ∷ used) distinct = (distinct 0, each_order used (λ r. distinct (suc r)))
 
-  pub listed_apart : AreCaches c → (n : ℕ) → AreOfOtherLeaves (leaves_at (take n (unclean_places c)))
-  listed_apart valid n = subst AreOfOtherLeaves (take-map (λ (a : Dirfrag). leaf_of a) n (unclean_places c)) (apart_take n (leaves_at (unclean_places c)) (from_apart 0 c.used (omega arith) (each_order c.used valid.distinct)))
+  pub listed_apart : AreCaches c → (n : ℕ) → AreOfOtherLeaves (leaves_of_places (take n (unclean_places c)))
+  listed_apart valid n = subst AreOfOtherLeaves (take-map (λ (a : Dirfrag). leaf_of a) n (unclean_places c)) (apart_take n (leaves_of_places (unclean_places c)) (from_apart 0 c.used (omega arith) (each_order c.used valid.distinct)))
 
   -- ---- where none is listed
 

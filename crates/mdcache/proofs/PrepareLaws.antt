@@ -1,5 +1,5 @@
 -- What a change that may be made tells of its leaves and inodes.
-use Rattle.mdcache.proofs.Common.{At, CacheMap, Core, Dentry, Fragment, HasTarget, IfSome, Ino, Inode, IsLeafAt, IsLive, IsRankNumber, IsRecordable, IsSoundCore, IsThat, LacksPlacesAt, Leaf, MayAdd, MaySet, None, Option, Rank, Some, Tree, ap, arith, false, first_leaf, hash_of, inl, inr, is_directory, is_known, names_of, no_pin, shown_in, state_of, subst, sym, true, unclean, ℕ, ◌∙◌, ◌≡◌, ◌≤◌, ◌⊎◌}
+use Rattle.mdcache.proofs.Common.{At, CacheMap, Core, Dentry, Fragment, HasTarget, IfSome, Ino, Inode, IsDentryLeaf, IsLive, IsRankNumber, IsRecordable, IsSoundCore, IsThat, LacksPlacesAt, Leaf, MayAdd, MaySet, None, Option, Rank, Some, Tree, ap, arith, false, first_leaf, hash_of, inl, inr, is_directory, is_known, names_of, no_pin, shown_in, state_of, subst, sym, true, unclean, ℕ, ◌∙◌, ◌≡◌, ◌≤◌, ◌⊎◌}
 use Rattle.std.specs.FinMap as map
 use Rattle.mdcache.proofs.CoreLaws.{pick_live}
 use Rattle.mdcache.proofs.NamedLaws.{sound_leaves, stands_at}
@@ -21,10 +21,10 @@ set_recordable tree dentry inode may recorded mode target =
 
 module _ (c : Core) (sound : IsSoundCore c) (dentry : Dentry) (leaf : Fragment) where
   -- the leaf of a directory that is there
-  pub dir_live : is_directory (shown_in c) dentry.dir.0 ≡ true → IsLeafAt c.covers dentry leaf → IsLive c.homes c.covers (dentry.dir, leaf)
+  pub dir_live : is_directory (shown_in c) dentry.dir.0 ≡ true → IsDentryLeaf c.covers dentry leaf → IsLive c.homes c.covers (dentry.dir, leaf)
   dir_live is pick = pick_live c sound dentry.dir (hash_of dentry.name) leaf is pick
 
-  module _ (inode : Inode) (stands : map.get (shown_in c) dentry ≡ Some inode) (pick : IsLeafAt c.covers dentry leaf) where
+  module _ (inode : Inode) (stands : map.get (shown_in c) dentry ≡ Some inode) (pick : IsDentryLeaf c.covers dentry leaf) where
     -- that of an entry
     pub entry_live : IsLive c.homes c.covers (dentry.dir, leaf)
     entry_live = dir_live (sound.sound.tabled.whole.parents dentry.dir.0 dentry.name inode stands) pick

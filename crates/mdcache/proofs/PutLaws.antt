@@ -1,5 +1,5 @@
 -- What a change of one name leaves.
-use Rattle.mdcache.proofs.Common.{AllCachedIn, At, Base, Bool, CacheMap, Cached, Core, Dirfrag, Fresh, Inode, IsAsItStands, IsCachedIn, IsFree, IsFreeFor, IsNamed, IsThere, IsTied, IsTiedAt, KeepsOnlyAt, Leaf, List, Mark, Marks, None, Omap, Option, Rank, Some, State, Stored, Unsaved, ap, at, at_rank, changed_are_tied, cond, cond_both, dirtied, edited_as, empty_of_len, eqb-true, false, false_from_ne_true, get-empty, get_put, get_unclean, get_with_frag, here, here_beside, here_is, here_put, inl, inr, is_clean, is_clean_over, key_cmp, leaf_is, leaf_of, leaf_or_apart, marked, named, now_unclean, object_of, one_leaf, placed_used, refl, rewritten, same_Some, state_of, subst, sym, true, true_from_ne_false, unclean, unsaved_at, unsaved_of, whole_rewritten, with_frag, with_unsaved, ℕ, ⊎_elim, ◌+◌, ◌<◌, ◌==◌, ◌∙◌, ◌≡◌, ◌⊎◌}
+use Rattle.mdcache.proofs.Common.{AllCachedIn, At, Base, Bool, CacheMap, Cached, Core, Dirfrag, Fresh, Inode, IsAsItStands, IsCachedIn, IsFree, IsFreeFor, IsNamed, IsThere, IsTied, IsTiedAt, KeepsOnlyAt, Leaf, List, Mark, Marks, None, Omap, Option, Rank, Some, State, Stored, Unsaved, ap, lies_by, at_rank, changed_are_tied, cond, cond_both, dirtied, edited_as, empty_of_len, eqb-true, false, false_from_ne_true, get-empty, get_put, get_unclean, get_with_frag, here, here_beside, here_is, here_put, inl, inr, is_clean, is_clean_over, key_cmp, leaf_is, leaf_of, leaf_or_apart, marked, named, now_unclean, object_of, one_leaf, placed_used, refl, rewritten, same_Some, state_of, subst, sym, true, true_from_ne_false, unclean, unsaved_at, unsaved_of, whole_rewritten, with_frag, with_unsaved, ℕ, ⊎_elim, ◌+◌, ◌<◌, ◌==◌, ◌∙◌, ◌≡◌, ◌⊎◌}
 use Rattle.std.specs.FinMap as map
 use Rattle.mdcache.specs.Changes.{IsCountedObject}
 
@@ -34,8 +34,8 @@ as_it_stands f object next tie given =
 
 -- each cached fragment is sound once one is, which comes
 pub cached_with : (s : State) (c : CacheMap) (r : ℕ) (leaf : Leaf) (f : Cached) → AllCachedIn s c → IsCachedIn s leaf f → AllCachedIn s (with_frag c r leaf f)
-cached_with s c r leaf f cached mine q a is = cond_both (leaf_is q leaf) (Some (at r f)) (map.get c.held q) (λ o. o ≡ Some a → IsCachedIn s q a.frag)
-    (λ one h. subst (λ (l : Leaf). IsCachedIn s l a.frag) (sym (one_leaf q leaf one)) (subst (IsCachedIn s leaf) (ap (λ (x : At). x.frag) (same_Some (at r f) a h)) mine)) (λ apart h. cached q a h) (sym (get_with_frag c r leaf f q) ∙ is)
+cached_with s c r leaf f cached mine q a is = cond_both (leaf_is q leaf) (Some (lies_by r f)) (map.get c.held q) (λ o. o ≡ Some a → IsCachedIn s q a.frag)
+    (λ one h. subst (λ (l : Leaf). IsCachedIn s l a.frag) (sym (one_leaf q leaf one)) (subst (IsCachedIn s leaf) (ap (λ (x : At). x.frag) (same_Some (lies_by r f) a h)) mine)) (λ apart h. cached q a h) (sym (get_with_frag c r leaf f q) ∙ is)
 
 -- where the leaf of a fragment that comes had a place kept at its rank alone, the places that are kept stay so
 pub with_only : (kept : Option (Rank × Leaf)) (c : CacheMap) (r : ℕ) (leaf : Leaf) (f : Cached) → IsFreeFor c r leaf → ((s : ℕ) → map.get c.held leaf ≡ None → kept ≡ Some (record { 0 = s }, leaf) → s ≡ r) → KeepsOnlyAt kept c
@@ -54,7 +54,7 @@ with_only kept c r leaf f free its only s q placed = ⊎_elim (λ was. on (leaf_
     on (inl one) (inl is) = inl (there (of_rank (map.get c.held leaf) free (subst (λ (l : Leaf). IsThere (here c s l)) one is)) one)
     on (inl one) (inr none) = inl (there (its s (ap (map.get c.held) (sym one) ∙ none.0) (subst (λ (l : Leaf). kept ≡ Some (record { 0 = s }, l)) one none.1)) one)
     on (inr apart) (inl is) = inl (subst IsThere (sym (here_beside c r leaf f s q apart)) is)
-    on (inr apart) (inr none) = inr (get_with_frag c r leaf f q ∙ ap (λ (b : Bool). cond b (Some (at r f)) (map.get c.held q)) apart ∙ none.0, none.1)
+    on (inr apart) (inr none) = inr (get_with_frag c r leaf f q ∙ ap (λ (b : Bool). cond b (Some (lies_by r f)) (map.get c.held q)) apart ∙ none.0, none.1)
 
 -- ---- one name changed
 
@@ -64,8 +64,8 @@ rewritten_only kept c r leaf f now seen only s q placed = ⊎_elim (λ there. in
   where
     absent : map.get c.held q ≡ None → map.get (rewritten c r leaf now).held q ≡ None
     absent none =
-        get_with_frag c r leaf now q ∙ ap (λ (b : Bool). cond b (Some (at r now)) (map.get c.held q))
-        (false_from_ne_true _ (λ one. let clash : None ≡ Some (at r f) = sym none ∙ ap (map.get c.held) (one_leaf q leaf one) ∙ here_is r (map.get c.held leaf) f seen in cc)) ∙ none
+        get_with_frag c r leaf now q ∙ ap (λ (b : Bool). cond b (Some (lies_by r now)) (map.get c.held q))
+        (false_from_ne_true _ (λ one. let clash : None ≡ Some (lies_by r f) = sym none ∙ ap (map.get c.held) (one_leaf q leaf one) ∙ here_is r (map.get c.held leaf) f seen in cc)) ∙ none
 
 module _ (c : Core) (a : Dirfrag) (name : List ℕ) (inode : Option Inode) (f : Cached) (there : here c.caches a.rank.0 (leaf_of a) ≡ Some f) (cached : AllCachedIn (state_of c) c.caches) where
   abbrev pub mark : Mark
@@ -74,11 +74,11 @@ module _ (c : Core) (a : Dirfrag) (name : List ℕ) (inode : Option Inode) (f : 
   abbrev new : Core
   new = named c a name inode
 
-  held : map.get c.caches.held (leaf_of a) ≡ Some (at a.rank.0 f)
+  held : map.get c.caches.held (leaf_of a) ≡ Some (lies_by a.rank.0 f)
   held = here_is a.rank.0 (map.get c.caches.held (leaf_of a)) f there
 
   mine : IsCachedIn (state_of c) (leaf_of a) f
-  mine = cached (leaf_of a) (at a.rank.0 f) held
+  mine = cached (leaf_of a) (lies_by a.rank.0 f) held
 
   unclean_now : unclean new.caches ≡ map.insert (unclean c.caches) (leaf_of a) (dirtied (beyond f) name c.next_version inode)
   unclean_now =

@@ -1,5 +1,5 @@
 -- A directory gets another cover: the state is sound then, and shows the same tree.
-use Rattle.mdcache.proofs.Common.{AllCachedIn, AreYoung, At, Base, Bool, CacheMap, Comes, Fragment, Fresh, HasLeaf, HasUnsaved, Holds, Ino, Inode, IsConcerned, IsCounted, IsLive, IsNewLeaf, IsOwned, IsRegrouped, IsSound, IsTable, IsTabled, IsTied, IsUnsaved, Job, Leaf, List, Mark, Marks, Names, None, Option, Some, State, Stored, Tree, Unsaved, [], ap, are_empty, arith, cond, cond_both, dentry-exact, dentry-total, dentry_of, each, false, false_from_ne_true, first_or_later, get-empty, get-patched, has_none, hash_of, holds, holds_contains, in_directory, inl, inode_or, inr, is_known, is_same, is_some, key_cmp, key_or_apart, later, leaf_is, leaves_of, list_any, marked_as, names_at, object_of, one_or_other, or_whole, pick_from_leaf, refl, regrouped, rules, same_Some, same_map, set_table, shown_at, shown_over, shown_tree, span, subst, sym, text_of, tree_of_row, true, zero, ℕ, ⊎_elim, ◌%◌, ◌+◌, ◌/◌, ◌<◌, ◌^◌, ◌∙◌, ◌∷◌, ◌≡◌, ◌⊎◌}
+use Rattle.mdcache.proofs.Common.{AllCachedIn, AreYoung, At, Base, Bool, CacheMap, Comes, Fragment, Fresh, HasLeaf, HasUnsaved, Holds, Ino, Inode, IsConcerned, IsCounted, IsLive, IsNewLeaf, HasOwner, IsRegrouped, IsSound, IsTable, IsTabled, IsTied, IsUnsaved, Job, Leaf, List, Mark, Marks, Names, None, Option, Some, State, Stored, Tree, Unsaved, [], ap, are_empty, arith, cond, cond_both, dentry-exact, dentry-total, dentry_of, each, false, false_from_ne_true, first_or_later, get-empty, get-patched, has_none, hash_of, holds, holds_contains, in_directory, inl, inode_or, inr, is_known, is_same, is_some, key_cmp, key_or_apart, later, leaf_is, leaves_of, list_any, marked_as, names_at, object_of, one_or_other, or_whole, pick_from_leaf, refl, regrouped, rules, same_Some, same_map, set_table, shown_at, shown_over, shown_tree, span, subst, sym, text_of, tree_of_row, true, zero, ℕ, ⊎_elim, ◌%◌, ◌+◌, ◌/◌, ◌<◌, ◌^◌, ◌∙◌, ◌∷◌, ◌≡◌, ◌⊎◌}
 use Rattle.std.specs.FinMap as map
 use Rattle.sorted_map.proofs.NatKeys.{get_beside as get_other_cover, get_put as get_cover, same_or_apart as same_number}
 use Rattle.mdcache.specs.Shown.{names_of}
@@ -143,7 +143,7 @@ module _ (s : State) (sound : IsSound s) (dir : Ino) (gone cover : List Fragment
   still_young : (marks : Marks) → AreYoung marks s.next_version → AreYoung marks n.next_version
   still_young marks young name mark there = let was = young name mark there in omega (arith, was)
 
-  owned_now : (name : List ℕ) → IsOwned s name → IsOwned n name
+  owned_now : (name : List ℕ) → HasOwner s name → HasOwner n name
   owned_now name (inl leaf) = ⊎_elim (λ ended. inr (inr (ap is_some (ap (map.get r.purge) (leaf.2 ∙ ap text_of (sym (its leaf.0 ended.0))) ∙ r.listed.ended leaf.0.1 ended.1))))
       (⊎_elim (λ came. inl (leaf.0, came_live leaf.0 came.0 came.1.0, leaf.2)) (λ apart. inl (leaf.0, apart_live leaf.0 apart leaf.1, leaf.2))) (which leaf.0)
   owned_now name (inr (inl d)) = inr (inl (d.0, row_stays s.covers dir.0 cover d.0.0 d.1, d.2))

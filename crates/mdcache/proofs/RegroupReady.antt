@@ -1,5 +1,5 @@
 -- What is made ready for a split or a merge: first room and names are planned, then the place that was kept is given up, then leaves are read.
-use Rattle.mdcache.proofs.Common.{AreAbsent, AreCaches, AreKept, CacheMap, Cached, Core, Dirfrag, Fragment, HasCached, Ino, IsButPlaces, IsChildAt, IsDistinct, IsFamilyAt, IsNoLess, IsThat, IsThere, IsWhole, KeepsNone, LacksPlacesIn, Leaf, MayNotFind, MayNotKeepAll, None, NoneEnds, Option, Reads, ReadsCore, ReadsFamily, Refusal, StaysAt, ap, arith, at_rank, child_of, false, has_place, here, inl, inr, it_stays, kept_at, leaf_is, leaf_itself, leaf_of, length, no_child, none_kept_at, order, placed_given_up, readies_whole, reads_placed, reads_then, reads_weaker, refl, refused_whole, rules, subst, suc, sym, true, unclean_at, unclean_of, without_children, zero, ℕ, ⊎_elim, ◌+◌, ◌<◌, ◌^◌, ◌∙◌, ◌≡◌, ◌≤◌, ◌⊎◌}
+use Rattle.mdcache.proofs.Common.{AreAbsent, AreCaches, HaveKeptPlaces, CacheMap, Cached, Core, Dirfrag, Fragment, HasCached, Ino, IsButPlaces, IsChildAt, IsDistinct, IsFamilyAt, IsNoLess, IsThat, IsThere, HasNoKeptPlace, KeepsNone, LacksPlacesIn, Leaf, MayNotFind, MayNotKeepAll, None, NoneEnds, Option, Reads, ReadsCore, ReadsFamily, Refusal, StaysAt, ap, arith, at_rank, child_of, false, has_place, here, inl, inr, it_stays, kept_at, leaf_is, leaf_itself, leaf_of, length, no_child, none_kept_at, order, placed_given_up, readies_whole, reads_placed, reads_then, reads_weaker, refl, refused_whole, rules, subst, suc, sym, true, unclean_at, unclean_of, without_children, zero, ℕ, ⊎_elim, ◌+◌, ◌<◌, ◌^◌, ◌∙◌, ◌≡◌, ◌≤◌, ◌⊎◌}
 use Rattle.std.specs.FinMap as map
 use Rattle.dentry_cache.proofs.ChildLaws.{AreDropped, are_dropped}
 use Rattle.mdcache.proofs.CoreLaws.{first_step, next_step, no_less_itself, not_found_before, reads_core_wider, still_absent, there_after}
@@ -58,7 +58,7 @@ module _ (old mid view : Core) (is : view ≡ mid) (a : Dirfrag) (nb : ℕ) (som
 
   -- what is left once room was made for them: what was read, no leaf twice in the order of use, and what is whole
   pub children : (caches' : CacheMap) → ReadsFamily a.rank.0 a.dir a.frag nb view.caches caches' → StaysAt a.rank.0 (leaf_of a) view.caches caches' → ReadsCore (Family a nb) (Family a nb) old (record view { caches = caches' })
-      × IsDistinct leaf_is (order caches' a.rank.0) × ((s : ℕ) (q : Leaf) → IsWhole caches' s q ⊎ Child a nb s q) × (AreAbsent caches' a.rank.0 a.dir a.frag nb → KeepsNone caches')
+      × IsDistinct leaf_is (order caches' a.rank.0) × ((s : ℕ) (q : Leaf) → HasNoKeptPlace caches' s q ⊎ Child a nb s q) × (AreAbsent caches' a.rank.0 a.dir a.frag nb → KeepsNone caches')
   children caches' family stays =
       let all : Reads (Family a nb) (Child a nb) old.objects old.caches caches' = reads_then (Family a nb) (Child a nb) old.objects old.caches mid.caches caches'
       (reads_weaker (IsThat a.rank.0 (leaf_of a)) NoneEnds (Family a nb) (Child a nb) (λ s q that. inl that) (λ s q no_end. absurd no_end) old.objects old.caches mid.caches reads.caches)
@@ -89,7 +89,7 @@ pub record HasGivenUp (old last : Core) (a : Dirfrag) (nb : ℕ) : Type 0 where
   pub none : KeepsNone last.caches
 
 module _ (old mid : Core) (a : Dirfrag) (nb : ℕ) (reads : ReadsCore (Family a nb) (Family a nb) old mid) (there : a.rank.0 < length old.caches.used) (distinct : IsDistinct leaf_is (order mid.caches a.rank.0))
-    (kept : AreKept mid.caches a.rank.0 a.dir a.frag nb) (only : (s : ℕ) (q : Leaf) → IsWhole mid.caches s q ⊎ Child a nb s q)
+    (kept : HaveKeptPlaces mid.caches a.rank.0 a.dir a.frag nb) (only : (s : ℕ) (q : Leaf) → HasNoKeptPlace mid.caches s q ⊎ Child a nb s q)
     (last : Core) (left : last ≡ record mid { caches = without_children a.rank.0 a.dir a.frag nb (2 ^ nb) mid.caches }) where
   abbrev freed : CacheMap
   freed = without_children a.rank.0 a.dir a.frag nb (2 ^ nb) mid.caches

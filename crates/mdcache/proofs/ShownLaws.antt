@@ -1,5 +1,5 @@
 -- What stands in the shown tree: a name of a directory of the table stands for what the leaf has that its hash picks.
-use Rattle.mdcache.proofs.Common.{Bool, Covers, Dentry, Fragment, HasLeaf, Homes, Inode, Leaf, List, Names, None, Option, Some, [], ap, append_assoc, arith, cond, contains_key-keys, dentry-total, dentry_cmp, dentry_of, directories, entries_in, entries_of, entries_under, eq_by_cmp, eqb-true, false, find, first_or_later, get-entries, get-from_entries, inl, inr, is_apart, is_known, is_same, key_cmp, later, leaves_of, list_any, nat_cmp, option_or, refl, rules, sym, tied_dentry, true, unsigned_tied, zero, ℕ, ⊎_elim, ◌&&◌, ◌++◌, ◌==◌, ◌||◌, ◌∙◌, ◌∷◌, ◌≡◌, ◌⊎◌}
+use Rattle.mdcache.proofs.Common.{Bool, Covers, Dentry, Fragment, HasLeaf, Homes, Inode, Leaf, List, Names, None, Option, Some, [], ap, append_assoc, arith, cond, contains_key-keys, dentry-total, dentry_cmp, dentry_of, directories, dentries_in, entries_of, entries_under, eq_by_cmp, eqb-true, false, find, first_or_later, get-entries, get-from_entries, inl, inr, is_apart, is_known, is_same, key_cmp, later, leaves_of, list_any, nat_cmp, option_or, refl, rules, sym, tied_dentry, true, unsigned_tied, zero, ℕ, ⊎_elim, ◌&&◌, ◌++◌, ◌==◌, ◌||◌, ◌∙◌, ◌∷◌, ◌≡◌, ◌⊎◌}
 use Rattle.std.specs.FinMap as finmap
 use Rattle.mdcache.specs.Shown.{tree_of}
 
@@ -39,10 +39,10 @@ module _ (names : Leaf → Names) where
       joined b o = search rules
 
   found_in : (covers : Covers) (d : ℕ) (name : List ℕ) (dirs : List ℕ)
-      → find dentry_cmp (dentry_of d name) (entries_in names covers dirs) ≡ cond (list_any (eq_by_cmp nat_cmp d) dirs) (first_of d name (leaves_of covers d)) None
+      → find dentry_cmp (dentry_of d name) (dentries_in names covers dirs) ≡ cond (list_any (eq_by_cmp nat_cmp d) dirs) (first_of d name (leaves_of covers d)) None
   found_in covers d name [] = refl
   found_in covers d name (e ∷ dirs) =
-      found_under d e name (leaves_of covers e) (entries_in names covers dirs) (e == d) refl
+      found_under d e name (leaves_of covers e) (dentries_in names covers dirs) (e == d) refl
       ∙ ap (option_or (cond (e == d) (first_of e name (leaves_of covers e)) None)) (found_in covers d name dirs)
       ∙ go (e == d) refl
     where
@@ -63,7 +63,7 @@ module _ (names : Leaf → Names) where
   found : (homes : Homes) (covers : Covers) (d : ℕ) (name : List ℕ) → finmap.get (tree_of homes covers names) (dentry_of d name) ≡ cond (is_known homes d) (first_of d name (leaves_of covers d)) None
   unfolding tree_of
   found homes covers d name =
-      get-from_entries dentry-total (entries_in names covers (directories homes)) (dentry_of d name)
+      get-from_entries dentry-total (dentries_in names covers (directories homes)) (dentry_of d name)
       ∙ found_in covers d name (directories homes)
       ∙ ap (λ b. cond b (first_of d name (leaves_of covers d)) None) (λ i. unsigned_tied d 1 i || sym (contains_key-keys homes d) i)
 

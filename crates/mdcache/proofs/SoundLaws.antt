@@ -1,7 +1,7 @@
 -- What keeps a state sound.
-use Rattle.mdcache.proofs.Common.{AllCachedIn, AreYoung, Bool, CacheMap, IsCounted, IsLive, IsOf, IsOwned, IsSaved, IsSound, IsStandingJob, IsTabled, IsTied, IsUnsaved, Job, Jobs, Keys, Leaf, List, Names, None, Objects, Some, State, Unsaved, ap, arith, cond, cond_both, get-insert, get-remove, inl, inr, is_some, leaf-total, leaf_is, object_of, one_leaf, refl, rules, same_Some, shown_at, shown_tree, subst, sym, text_of, tied_leaf, true, with_job, ℕ, ⊎_elim, ◌∙◌, ◌≡◌, ◌⊎◌}
+use Rattle.mdcache.proofs.Common.{AllCachedIn, AreYoung, Bool, CacheMap, IsCounted, IsLive, IsOf, HasOwner, IsSaved, IsSound, IsStandingJob, IsTabled, IsTied, IsUnsaved, Job, Jobs, Keys, Leaf, List, Names, None, Objects, Some, State, Unsaved, ap, arith, cond, cond_both, get-insert, get-remove, inl, inr, is_some, leaf-total, leaf_is, object_of, one_leaf, refl, rules, same_Some, shown_at, shown_tree, subst, sym, text_of, tied_leaf, true, with_job, ℕ, ⊎_elim, ◌∙◌, ◌≡◌, ◌⊎◌}
 use Rattle.std.specs.FinMap as map
-use Rattle.mdcache.specs.Commits.{leaf_of}
+use Rattle.mdcache.specs.Commits.{leaf_of_job}
 use Rattle.mdcache.specs.Shown.{names_of}
 use Rattle.mdcache.proofs.TreeLaws.{tree_alike}
 
@@ -24,7 +24,7 @@ module _ (s : State) (objects : Objects) (purge : Keys) (sound : IsSound s) wher
     pub other_objects_tree : shown_tree now ≡ shown_tree s
     other_objects_tree = tree_alike s.homes s.covers (names_of s.unsaved objects) (names_of s.unsaved s.objects) names
 
-    pub other_objects : ((name : List ℕ) → is_some (map.get objects name) ≡ true → IsOwned now name) → ((leaf : Leaf) → IsLive s.homes s.covers leaf → map.get purge (text_of leaf) ≡ None) → IsSound now
+    pub other_objects : ((name : List ℕ) → is_some (map.get objects name) ≡ true → HasOwner now name) → ((leaf : Leaf) → IsLive s.homes s.covers leaf → map.get purge (text_of leaf) ≡ None) → IsSound now
     other_objects owned listed = record {
       table = sound.table;
       numbered = sound.numbered;
@@ -68,14 +68,14 @@ dropped_sound s leaf sound = jobs_sound s (map.remove s.jobs leaf) s.next_job so
     (λ q job is. let old = sound.standing q job (stood_before s leaf q job is) in record { mine = old.mine; given = old.given; young = old.young; unsaved = old.unsaved; beside = old.beside; taken = old.taken })
     (λ a b i j p q same. sound.once a b i j (stood_before s leaf a i p) (stood_before s leaf b j q) same)
 
-module _ (s : State) (job : Job) (u : Unsaved) (sound : IsSound s) (beside : map.get s.unsaved (leaf_of job) ≡ Some u) (number : job.number ≡ s.next_job)
+module _ (s : State) (job : Job) (u : Unsaved) (sound : IsSound s) (beside : map.get s.unsaved (leaf_of_job job) ≡ Some u) (number : job.number ≡ s.next_job)
     (young : AreYoung job.snapshot.names s.next_version) (taken : IsOf job u (object_of s.objects job.ino job.frag)) where
   abbrev pub begun : State
   begun = with_job s job
 
-  begun_or_before : (q : Leaf) (i : Job) → map.get begun.jobs q ≡ Some i → ((q ≡ leaf_of job) × (job ≡ i)) ⊎ (map.get s.jobs q ≡ Some i)
-  begun_or_before q i is = cond_both (leaf_is q (leaf_of job)) (Some job) (map.get s.jobs q) (λ o. o ≡ Some i → ((q ≡ leaf_of job) × (job ≡ i)) ⊎ (map.get s.jobs q ≡ Some i))
-      (λ same h. inl (one_leaf q (leaf_of job) same, same_Some job i h)) (λ apart h. inr h) (sym (get-insert leaf-total s.jobs (leaf_of job) job q ∙ ap (λ (b : Bool). cond b (Some job) (map.get s.jobs q)) (tied_leaf q (leaf_of job))) ∙ is)
+  begun_or_before : (q : Leaf) (i : Job) → map.get begun.jobs q ≡ Some i → ((q ≡ leaf_of_job job) × (job ≡ i)) ⊎ (map.get s.jobs q ≡ Some i)
+  begun_or_before q i is = cond_both (leaf_is q (leaf_of_job job)) (Some job) (map.get s.jobs q) (λ o. o ≡ Some i → ((q ≡ leaf_of_job job) × (job ≡ i)) ⊎ (map.get s.jobs q ≡ Some i))
+      (λ same h. inl (one_leaf q (leaf_of_job job) same, same_Some job i h)) (λ apart h. inr h) (sym (get-insert leaf-total s.jobs (leaf_of_job job) job q ∙ ap (λ (b : Bool). cond b (Some job) (map.get s.jobs q)) (tied_leaf q (leaf_of_job job))) ∙ is)
 
   all_stand : (q : Leaf) (i : Job) → map.get begun.jobs q ≡ Some i → IsStandingJob begun q i
   all_stand q i is = ⊎_elim
@@ -89,7 +89,7 @@ module _ (s : State) (job : Job) (u : Unsaved) (sound : IsSound s) (beside : map
   one_number : (a b : Leaf) (i j : Job) → map.get begun.jobs a ≡ Some i → map.get begun.jobs b ≡ Some j → i.number ≡ j.number → a ≡ b
   one_number a b i j p q same = go (begun_or_before a i p) (begun_or_before b j q)
     where
-      go : ((a ≡ leaf_of job) × (job ≡ i)) ⊎ (map.get s.jobs a ≡ Some i) → ((b ≡ leaf_of job) × (job ≡ j)) ⊎ (map.get s.jobs b ≡ Some j) → a ≡ b
+      go : ((a ≡ leaf_of_job job) × (job ≡ i)) ⊎ (map.get s.jobs a ≡ Some i) → ((b ≡ leaf_of_job job) × (job ≡ j)) ⊎ (map.get s.jobs b ≡ Some j) → a ≡ b
       go (inl x) (inl y) = x.0 ∙ sym y.0
       go (inl x) (inr y) = absurd (below b j y (sym same ∙ ap (λ (k : Job). k.number) (sym x.1)))
       go (inr x) (inl y) = absurd (below a i x (same ∙ ap (λ (k : Job). k.number) (sym y.1)))

@@ -1,5 +1,5 @@
 -- What a split makes of the whole, once all was ready for it.
-use Rattle.mdcache.proofs.Common.{AllCachedIn, At, Bool, Cached, Came, CanSplit, Comes, Core, Dirfrag, Fragment, Fresh, HasCached, HasLeaf, HasUnsaved, Ino, Inode, IsChild, IsChildAt, IsConcerned, IsDistinct, IsFamilyAt, IsFreeFor, IsListedAnew, IsNewLeaf, IsNoChild, IsReadyToSplit, IsRegrouped, IsSound, IsSoundCore, IsSplit, IsSplitInto, IsSplitReady, IsTied, IsTree, IsWhole, Leaf, List, MayHold, Names, None, Option, Part, ReadsCore, Some, Split, SplitsAt, SplitsInto, State, Unsaved, [], ap, are_empty, arith, at, between, child_of, cond, dentry_of, false, fresh_tied, get-names_in, has_none, hash_of, here, here_free, holds, holds_contains, inl, inr, is_known, is_some, leaf_is, leaf_of, leaf_or_apart, leaves_of, length, marked_as, mul-le-mul_right, names_in, names_of, object_of, one_of_hash, one_or_other, order, pick_after_split, reads_came, refl, rules, same_Some, shown, shown_tree, span, span-split, span_pos, split_beside, split_came, split_child, split_gone, split_in, split_unclean_beside, split_unclean_child, split_unclean_gone, split_whole, state_of, subst, sym, tree_of_row, true, unclean, without_objects, zero, ℕ, ⊎_elim, ◌*◌, ◌+◌, ◌<◌, ◌^◌, ◌∙◌, ◌∷◌, ◌≡◌, ◌≤◌, ◌⊎◌}
+use Rattle.mdcache.proofs.Common.{AllCachedIn, At, Bool, Cached, Came, CanSplit, Comes, Core, Dirfrag, Fragment, Fresh, HasCached, HasLeaf, HasUnsaved, Ino, Inode, IsChild, IsChildAt, IsConcerned, IsDistinct, IsFamilyAt, IsFreeFor, IsListedAnew, IsNewLeaf, IsNoChild, IsReadyToSplit, IsRegrouped, IsSound, IsSoundCore, IsSplit, IsSplitInto, IsSplitReady, IsTied, IsTree, HasNoKeptPlace, Leaf, List, MayHold, Names, None, Option, Part, ReadsCore, Some, Split, SplitsAt, SplitsInto, State, Unsaved, [], ap, are_empty, arith, lies_by, between, child_of, cond, dentry_of, false, fresh_tied, get-names_in, has_none, hash_of, here, here_free, holds, holds_contains, inl, inr, is_known, is_some, leaf_is, leaf_of, leaf_or_apart, leaves_of, length, marked_as, mul-le-mul_right, names_in, names_of, object_of, one_of_hash, one_or_other, order, pick_after_split, reads_came, refl, rules, same_Some, shown_names, shown_tree, span, span-split, span_pos, split_beside, split_came, split_child, split_gone, split_in, split_unclean_beside, split_unclean_child, split_unclean_gone, split_whole, state_of, subst, sym, tree_of_row, true, unclean, without_objects, zero, ℕ, ⊎_elim, ◌*◌, ◌+◌, ◌<◌, ◌^◌, ◌∙◌, ◌∷◌, ◌≡◌, ◌≤◌, ◌⊎◌}
 use Rattle.std.proofs.Math.Bool.{and-true}
 use Rattle.std.specs.List.{slice_index_or}
 use Rattle.std.specs.FinMap as map
@@ -48,9 +48,9 @@ pub record HasSplit (old new : Core) (a : Dirfrag) (nb : ℕ) : Type 0 where
 
 module _ (old mid : Core) (sound : IsSoundCore old) (a : Dirfrag) (nb : ℕ) (split : Split) (may : MayHold old.caches a.rank (leaf_of a)) (known : is_known old.homes a.dir.0 ≡ true)
     (can : CanSplit (leaves_of old.covers a.dir.0) a.frag nb) (reads : ReadsCore (IsFamilyAt a.rank.0 a.dir a.frag nb) (IsFamilyAt a.rank.0 a.dir a.frag nb) old mid) (distinct : IsDistinct leaf_is (order mid.caches a.rank.0))
-    (only : (r : ℕ) (q : Leaf) → IsWhole mid.caches r q ⊎ IsChildAt a.rank.0 a.dir a.frag nb r q) (ready : IsSplitReady mid a nb split)
+    (only : (r : ℕ) (q : Leaf) → HasNoKeptPlace mid.caches r q ⊎ IsChildAt a.rank.0 a.dir a.frag nb r q) (ready : IsSplitReady mid a nb split)
     (new : Core) (divided : IsSplit (leaves_of mid.covers a.dir.0) (leaves_of new.covers a.dir.0) a.frag nb) (whole : IsTree (leaves_of new.covers a.dir.0)) (places : SplitsInto a.rank.0 a.dir a.frag nb split.parts mid.next_version mid.caches new.caches)
-    (left : (empty : Bool) × HasCached (here mid.caches a.rank.0 (leaf_of a)) (λ (f : Cached). empty ≡ has_none (shown f)) × (new ≡ split_in mid a nb split.plan (leaves_of new.covers a.dir.0) empty new.caches new.room)) where
+    (left : (empty : Bool) × HasCached (here mid.caches a.rank.0 (leaf_of a)) (λ (f : Cached). empty ≡ has_none (shown_names f)) × (new ≡ split_in mid a nb split.plan (leaves_of new.covers a.dir.0) empty new.caches new.room)) where
   abbrev leaf : Leaf
   leaf = leaf_of a
 
@@ -108,12 +108,12 @@ module _ (old mid : Core) (sound : IsSoundCore old) (a : Dirfrag) (nb : ℕ) (sp
 
   -- ---- its names
 
-  leaf_shows : names_of s.unsaved s.objects leaf ≡ shown f
+  leaf_shows : names_of s.unsaved s.objects leaf ≡ shown_names f
   leaf_shows = shows_so mid cached a.rank.0 leaf f it.1
 
   -- a child has the names of the tree that it contains
-  child_names : (g : Fragment) → Comes row cover g → (name : List ℕ) → map.get (names_in g (shown f)) name ≡ cond (holds g (hash_of name)) (map.get (shown_tree s) (dentry_of a.dir.0 name)) None
-  child_names g came name = get-names_in g (shown f) name ∙ holds_alike (holds g (hash_of name)) (map.get (shown f) name) (map.get (shown_tree s) (dentry_of a.dir.0 name)) (λ has.
+  child_names : (g : Fragment) → Comes row cover g → (name : List ℕ) → map.get (names_in g (shown_names f)) name ≡ cond (holds g (hash_of name)) (map.get (shown_tree s) (dentry_of a.dir.0 name)) None
+  child_names g came name = get-names_in g (shown_names f) name ∙ holds_alike (holds g (hash_of name)) (map.get (shown_names f) name) (map.get (shown_tree s) (dentry_of a.dir.0 name)) (λ has.
       let p = pick_at s (sound_leaves s still.0) (dentry_of a.dir.0 name) in
       let one : a.frag ≡ p.0 = ⊎_elim (λ same. sym same) (λ other.
       let after = pick_after_split row cover a.frag whole (hash_of name) p.0 p.1 nb divided other in
@@ -150,7 +150,7 @@ module _ (old mid : Core) (sound : IsSoundCore old) (a : Dirfrag) (nb : ℕ) (sp
     unsaved = unclean new.caches;
     purge = t.purge;
     left =
-        (let empty : left.0 ≡ are_empty s a.dir (a.frag ∷ []) = so (λ (g : Cached). left.0 ≡ has_none (shown g)) left.1 ∙ ap has_none (sym leaf_shows) ∙ sym (and-true (has_none (names_of s.unsaved s.objects leaf))) in
+        (let empty : left.0 ≡ are_empty s a.dir (a.frag ∷ []) = so (λ (g : Cached). left.0 ≡ has_none (shown_names g)) left.1 ∙ ap has_none (sym leaf_shows) ∙ sym (and-true (has_none (names_of s.unsaved s.objects leaf))) in
         λ i. record t { next_version = s.next_version + cond (empty i) 0 1 });
     came = λ g came.
         let child = is_child row cover a.frag nb divided g came in
@@ -206,11 +206,11 @@ module _ (old mid : Core) (sound : IsSoundCore old) (a : Dirfrag) (nb : ℕ) (sp
           (λ q same came b is.
           let child = is_child row cover a.frag nb divided q.1 came in
           let below = child.1 in
-          let held : map.get new.caches.held q ≡ Some (at a.rank.0 (slice_index_or done.0 child.0 any).fragment) = ap (map.get new.caches.held) ((λ i. (record { 0 = same i }, q.1)) ∙ ap (λ (h : Fragment). (a.dir, h)) child.2)
+          let held : map.get new.caches.held q ≡ Some (lies_by a.rank.0 (slice_index_or done.0 child.0 any).fragment) = ap (map.get new.caches.held) ((λ i. (record { 0 = same i }, q.1)) ∙ ap (λ (h : Fragment). (a.dir, h)) child.2)
           ∙ split_child a.rank.0 a.dir a.frag nb split.parts mid.next_version mid.caches new.caches f can.fits.some count done child.0 any below in
           let each_is = done.1.each child.0 any (numbered child.0 below).0 in
           let given : (slice_index_or done.0 child.0 any).fragment.generation ≡ s.next_generation + child.0 = each_is.numbered ∙ (numbered child.0 below).1 in
-          subst (λ (k : At). IsTied k.frag (object_of s.objects q.0 q.1) × (k.frag.generation < s.next_generation + 2 ^ nb)) (same_Some (at a.rank.0 (slice_index_or done.0 child.0 any).fragment) b (sym held ∙ is))
+          subst (λ (k : At). IsTied k.frag (object_of s.objects q.0 q.1) × (k.frag.generation < s.next_generation + 2 ^ nb)) (same_Some (lies_by a.rank.0 (slice_index_or done.0 child.0 any).fragment) b (sym held ∙ is))
           (fresh_tied (slice_index_or done.0 child.0 any).fragment (object_of s.objects q.0 q.1) each_is.fresh, omega (arith, given, below)))
           (λ q apart b is. sym (split_beside a.rank.0 a.dir a.frag nb split.parts mid.next_version mid.caches new.caches f can.fits.some count done q (beside q apart).0 (beside q apart).1) ∙ is);
       none = split_whole a.rank.0 a.dir a.frag nb split.parts mid.next_version mid.caches new.caches f can.fits.some count done (there_after Family Family old mid a.rank.0 reads may.there) distinct free ready.kept only;

@@ -4,7 +4,7 @@ use Rattle.std.specs.FinMap as map
 use Rattle.mds_types.proofs.LeafLaws.{get_removed, same_or_apart}
 use Rattle.objstore.specs.Objects.{written}
 use Rattle.inode_table.specs.Dirs.{IsLive}
-use Rattle.mdcache.specs.Commits.{leaf_of}
+use Rattle.mdcache.specs.Commits.{leaf_of_job}
 use Rattle.mdcache.proofs.ObjectLaws.{purged_right, tree_saved_right}
 use Rattle.mdcache.proofs.TextLaws.{one_text}
 
@@ -50,11 +50,11 @@ module _ (old new : State) where
     pub ended_object : (stands : map.get new.jobs leaf ≡ Some job) (before after : ℕ) (other : Job) (result : Result (Unit {0}) Refusal) → EndsJobOf old new before after other result → object_of new.objects leaf.0 leaf.1 ≡ object_of old.objects leaf.0 leaf.1
     unfolding written
     ended_object stands before after other (Err reason) h = ap (λ (s : State). object_of s.objects leaf.0 leaf.1) h.1
-    ended_object stands before after other (Ok done) h = ap (λ (s : State). object_of s.objects leaf.0 leaf.1) h.left ∙ elim (same_or_apart leaf (leaf_of other)) [
+    ended_object stands before after other (Ok done) h = ap (λ (s : State). object_of s.objects leaf.0 leaf.1) h.left ∙ elim (same_or_apart leaf (leaf_of_job other)) [
       | inl same ↦
-          let clash : None ≡ Some job = sym (get_removed old.jobs (leaf_of other)) ∙ ap (map.get (map.remove old.jobs (leaf_of other))) (sym same) ∙ sym (ap (λ (s : State). map.get s.jobs leaf) h.left) ∙ stands in
+          let clash : None ≡ Some job = sym (get_removed old.jobs (leaf_of_job other)) ∙ ap (map.get (map.remove old.jobs (leaf_of_job other))) (sym same) ∙ sym (ap (λ (s : State). map.get s.jobs leaf) h.left) ∙ stands in
           absurd cc
-      | inr apart ↦ get_beside old.objects (text_of (leaf_of other)) _ (text_of leaf) (λ same. apart (one_text old.homes old.covers sound.table sound.numbered leaf (leaf_of other) live (sound.unsaved (leaf_of other) h.unsaved h.beside).live same))
+      | inr apart ↦ get_beside old.objects (text_of (leaf_of_job other)) _ (text_of leaf) (λ same. apart (one_text old.homes old.covers sound.table sound.numbered leaf (leaf_of_job other) live (sound.unsaved (leaf_of_job other) h.unsaved h.beside).live same))
     ]
 
     pub saved_object : (before after : ℕ) (dir : Ino) (result : Result (Unit {0}) Refusal) → SavesTree old new before after dir result → object_of new.objects leaf.0 leaf.1 ≡ object_of old.objects leaf.0 leaf.1

@@ -1,5 +1,5 @@
 -- The shown tree is told by the names of the live leaves.
-use Rattle.mdcache.proofs.Common.{Contains, Covers, Fragment, Homes, IsLive, Leaf, List, Names, [], ap, contains_key-keys, directories, entries_in, entries_of, entries_under, eq_by_cmp, is_known, is_same, is_some, later, leaves_of, list_any, nat_cmp, or_cases, or_left, or_right, refl, sym, true, unsigned_tied, ℕ, ⊎_elim, ◌++◌, ◌==◌, ◌∙◌, ◌∷◌, ◌≡◌}
+use Rattle.mdcache.proofs.Common.{Contains, Covers, Fragment, Homes, IsLive, Leaf, List, Names, [], ap, contains_key-keys, directories, dentries_in, entries_of, entries_under, eq_by_cmp, is_known, is_same, is_some, later, leaves_of, list_any, nat_cmp, or_cases, or_left, or_right, refl, sym, true, unsigned_tied, ℕ, ⊎_elim, ◌++◌, ◌==◌, ◌∙◌, ◌∷◌, ◌≡◌}
 use Rattle.std.specs.FinMap as finmap
 use Rattle.mdcache.specs.Shown.{tree_of}
 use Rattle.fragtree.proofs.TreeLaws.{first}
@@ -12,11 +12,11 @@ under_alike new old d (f ∷ fs) same =
     λ i. entries_of d (finmap.entries (here i)) ++ rest i
 
 in_alike : (new old : Leaf → Names) (covers : Covers) (dirs : List ℕ) → ((d : ℕ) → list_any (eq_by_cmp nat_cmp d) dirs ≡ true → entries_under new d (leaves_of covers d) ≡ entries_under old d (leaves_of covers d))
-    → entries_in new covers dirs ≡ entries_in old covers dirs
+    → dentries_in new covers dirs ≡ dentries_in old covers dirs
 in_alike new old covers [] same = refl
 in_alike new old covers (d ∷ dirs) same =
     let here : entries_under new d (leaves_of covers d) ≡ entries_under old d (leaves_of covers d) = same d (or_left (eq_by_cmp nat_cmp d d) (list_any (eq_by_cmp nat_cmp d) dirs) (unsigned_tied d d ∙ is_same d d refl)) in
-    let rest : entries_in new covers dirs ≡ entries_in old covers dirs = in_alike new old covers dirs (λ e has. same e (or_right (eq_by_cmp nat_cmp e d) (list_any (eq_by_cmp nat_cmp e) dirs) has)) in
+    let rest : dentries_in new covers dirs ≡ dentries_in old covers dirs = in_alike new old covers dirs (λ e has. same e (or_right (eq_by_cmp nat_cmp e d) (list_any (eq_by_cmp nat_cmp e) dirs) has)) in
     λ i. here i ++ rest i
 
 known_of : (homes : Homes) (d : ℕ) → list_any (eq_by_cmp nat_cmp d) (directories homes) ≡ true → is_known homes d ≡ true

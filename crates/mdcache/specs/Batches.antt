@@ -8,7 +8,7 @@ use Rattle.mds_types.specs.declared.refusals.Refusal.{Refusal}
 use Rattle.mds_types.specs.declared.refusals.Refusal.TheVariants.{NoInodes, NoMemory}
 use Rattle.dentry_cache.specs.Cache.{Leaf, Unsaved}
 use Rattle.dentry_cache.specs.CacheMap.{CacheMap, unclean}
-use Rattle.mdcache.specs.Commits.{HasSpelled, LacksJobNumber, leaf_of as job_leaf}
+use Rattle.mdcache.specs.Commits.{HasSpelled, LacksJobNumber, leaf_of_job}
 use Rattle.mdcache.specs.Core.{Core, state_of}
 use Rattle.mdcache.specs.Flushed.{IsAtHand}
 use Rattle.mdcache.specs.Ranks.{MayHold}
@@ -36,15 +36,15 @@ AreOfOtherLeaves [] = Unit {0}
 AreOfOtherLeaves (leaf ∷ leaves) = NotAmong leaf leaves × AreOfOtherLeaves leaves
 
 -- where fragments lie, and whose jobs were begun
-abbrev pub leaves_at : List Dirfrag → List Leaf
-leaves_at places = list_map (λ (a : Dirfrag). leaf_of a) places
+abbrev pub leaves_of_places : List Dirfrag → List Leaf
+leaves_of_places places = list_map (λ (a : Dirfrag). leaf_of a) places
 
 abbrev pub leaves_of_jobs : List Begun → List Leaf
-leaves_of_jobs begun = list_map (λ (b : Begun). job_leaf b.job) begun
+leaves_of_jobs begun = list_map (λ (b : Begun). leaf_of_job b.job) begun
 
 -- a commit was begun of a fragment that hasn't changed since; no other rank than this has it
 pub record IsBegunAt (core : Core) (b : Begun) : Type 0 where
-  pub holds : MayHold core.caches b.rank (job_leaf b.job)
+  pub holds : MayHold core.caches b.rank (leaf_of_job b.job)
   pub hand : IsAtHand (state_of core) b.job
 
 -- the write of a job that was begun
@@ -56,7 +56,7 @@ abbrev pub IsReadied : Begun → Result Ready Refusal → Type 0
 IsReadied b result = MatchResult result (λ ready. ready ≡ ready_of b) (λ reason. reason ≡ NoMemory)
 
 abbrev pub leaves_of_writes : List Ready → List Leaf
-leaves_of_writes ready = list_map (λ (r : Ready). job_leaf r.encoded.job) ready
+leaves_of_writes ready = list_map (λ (r : Ready). leaf_of_job r.encoded.job) ready
 
 -- so it is with the job of a write
 abbrev pub IsReadyWrite : Core → Ready → Type 0

@@ -15,7 +15,7 @@ use Rattle.dentry_cache.specs.Loading.{object_of}
 use Rattle.dentry_cache.specs.Cache.{Leaf, Unsaved, leaf_cmp}
 use Rattle.dentry_cache.specs.Ties.{names_at}
 use Rattle.inode_table.specs.Dirs.{Counts as Entries, DirPins, one_less, one_more}
-use Rattle.inode_table.specs.TreeTable.{counts_moved, home_at, with_count, with_home, with_pin}
+use Rattle.inode_table.specs.TreeTable.{counts_moved, home_at, with_count, with_home, with_dir_pin}
 use Rattle.namespace_ops.specs.Changes.{dentry_at, in_directory, leaves}
 use Rattle.namespace_ops.specs.declared.plans.Change.{Change}
 use Rattle.namespace_ops.specs.declared.plans.Spot.{Spot}
@@ -142,7 +142,7 @@ counts_by counts stood (Some spot) (Some put) comes = counts_moved counts spot.a
 abbrev pub pins_by : DirPins → Option Spot → Option (Spot × Inode) → Bool → DirPins
 pins_by pins None None comes = pins
 pins_by pins None (Some put) true = pins
-pins_by pins None (Some put) false = with_pin pins put.1
+pins_by pins None (Some put) false = with_dir_pin pins put.1
 pins_by pins (Some spot) puts comes = pins
 
 -- something stands at the name that gets an inode

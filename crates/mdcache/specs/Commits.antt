@@ -38,12 +38,12 @@ job_for s leaf u = record {
 }
 
 -- the leaf of a job
-abbrev pub leaf_of : Job → Leaf
-leaf_of job = (job.ino, job.frag)
+abbrev pub leaf_of_job : Job → Leaf
+leaf_of_job job = (job.ino, job.frag)
 
 -- the job stands, and its number is taken
 abbrev pub with_job : State → Job → State
-with_job s job = record s { jobs = map.insert s.jobs (leaf_of job) job; next_job = s.next_job + 1 }
+with_job s job = record s { jobs = map.insert s.jobs (leaf_of_job job) job; next_job = s.next_job + 1 }
 
 -- no number is left for a job, or none for the version that its commit would write
 abbrev pub IsAtEnd : ℕ → Base → Type 0
@@ -88,9 +88,9 @@ left_of u snapshot = stored_with (next_version snapshot.base) u.generation (unse
 -- the snapshot's write was done, its names became clean, and the job is gone
 abbrev pub committed : State → Job → Unsaved → State
 committed s job u = record s {
-  unsaved = with_unsaved s.unsaved (leaf_of job) (left_of u job.snapshot);
-  objects = written s.objects (text_of (leaf_of job)) (write_of job.snapshot);
-  jobs = map.remove s.jobs (leaf_of job);
+  unsaved = with_unsaved s.unsaved (leaf_of_job job) (left_of u job.snapshot);
+  objects = written s.objects (text_of (leaf_of_job job)) (write_of job.snapshot);
+  jobs = map.remove s.jobs (leaf_of_job job);
 }
 
 -- the names that a snapshot shows over the object that it was taken over
@@ -105,9 +105,9 @@ HasSpelled (Some object) version names = SpellsFragment object version names
 -- a commit ended: its job stood, and its object spells what the fragment showed when the job began, one version higher;
 -- the shown tree stays
 pub record IsEnded (old new : State) (job : Job) : Type 0 where
-  pub stood : map.get old.jobs (leaf_of job) ≡ Some job
+  pub stood : map.get old.jobs (leaf_of_job job) ≡ Some job
   pub unsaved : Unsaved
-  pub beside : map.get old.unsaved (leaf_of job) ≡ Some unsaved
+  pub beside : map.get old.unsaved (leaf_of_job job) ≡ Some unsaved
   pub left : new ≡ committed old job unsaved
   pub spelled : HasSpelled (object_of new.objects job.ino job.frag) (next_version job.snapshot.base)
       (names_then job.snapshot (object_of old.objects job.ino job.frag))
@@ -118,8 +118,8 @@ pub record IsEnded (old new : State) (job : Job) : Type 0 where
 abbrev pub EndsJobOf : (old new : State) → (before after : ℕ) → Job → Result (Unit {0}) Refusal → Type 0
 EndsJobOf old new before after job (Ok done) = IsEnded old new job
 EndsJobOf old new before after job (Err reason) =
-    (((reason ≡ StaleJob) × (map.get old.jobs (leaf_of job) ≡ Some job → ⊥))
-    ⊎ ((map.get old.jobs (leaf_of job) ≡ Some job) × MayRefuse before after reason)) × (new ≡ old)
+    (((reason ≡ StaleJob) × (map.get old.jobs (leaf_of_job job) ≡ Some job → ⊥))
+    ⊎ ((map.get old.jobs (leaf_of_job job) ≡ Some job) × MayRefuse before after reason)) × (new ≡ old)
 
 -- ---- a commit is dropped
 

@@ -20,7 +20,7 @@ use Rattle.dentry_cache.specs.Ties.{IsTied}
 use Rattle.mds_types.specs.declared.dirfrags.Dirfrag.{Dirfrag}
 use Rattle.inode_table.specs.declared.dirs.Home.{Home}
 use Rattle.inode_table.specs.Dirs.{Counts, Covers, DirPins, Homes, one_less, one_more}
-use Rattle.inode_table.specs.TreeTable.{counts_moved, with_home, with_pin}
+use Rattle.inode_table.specs.TreeTable.{counts_moved, with_home, with_dir_pin}
 use Rattle.mdcache.specs.Changes.{rows_but, texts_gone, with_objects, without_leaves}
 use Rattle.dentry_cache.specs.Reads.{Reads}
 use Rattle.mdcache.specs.CacheReads.{LacksPlacesIn}
@@ -134,15 +134,15 @@ named p a name inode = record p {
 }
 
 -- an entry came to a directory, or one went
-abbrev pub with_entry : Core → Ino → Core
-with_entry p dir = record p { counts = one_more p.counts dir.0 }
+abbrev pub with_entry_counted : Core → Ino → Core
+with_entry_counted p dir = record p { counts = one_more p.counts dir.0 }
 
 abbrev pub without_entry : Core → Ino → Core
 without_entry p dir = record p { counts = one_less p.counts dir.0 }
 
 -- the pin of an inode is set, if it is a directory
 abbrev pub pinned : Core → Inode → Core
-pinned p inode = record p { pins = with_pin p.pins inode }
+pinned p inode = record p { pins = with_dir_pin p.pins inode }
 
 -- a fragment that is there shows a name
 abbrev pub shows : Core → Dirfrag → List ℕ → Bool

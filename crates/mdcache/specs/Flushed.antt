@@ -9,8 +9,8 @@ use Rattle.dentry_cache.specs.CacheMap.{CacheMap, here}
 use Rattle.dentry_cache.specs.Came.{Came, NoneEnds}
 use Rattle.dentry_cache.specs.Loading.{object_of}
 use Rattle.inode_table.specs.Dirs.{is_known, leaves_of}
-use Rattle.cold_store.specs.ColdTree.{IsColdTree, tree_of}
-use Rattle.mdcache.specs.Commits.{Begins, IsEnded, leaf_of}
+use Rattle.cold_store.specs.ColdTree.{IsColdTree, tree_object_of}
+use Rattle.mdcache.specs.Commits.{Begins, IsEnded, leaf_of_job}
 use Rattle.mdcache.specs.Core.{Core, shown_in}
 use Rattle.mdcache.specs.Objects.{tree_object}
 use Rattle.mdcache.specs.SavedTrees.{HasTrees}
@@ -22,7 +22,7 @@ use Rattle.mdcache.specs.State.{IsLive, State, text_of, tree_text}
 pub record IsFlushed (s : State) : Type 0 where
   pub clean : s.unsaved ≡ map.empty
   pub trees : (dir : Ino) → is_known s.homes dir.0 ≡ true
-      → tree_of s.objects dir ≡ cond (nat_lt 1 (length (leaves_of s.covers dir.0)))
+      → tree_object_of s.objects dir ≡ cond (nat_lt 1 (length (leaves_of s.covers dir.0)))
       (Some (tree_object (leaves_of s.covers dir.0))) None
 
 -- the store's cold tree is the shown tree then
@@ -89,29 +89,29 @@ PurgedAreFlushed =
 
 -- the job stands, and has the fragment as it is still: its names are all dirty ones
 pub record IsAtHand (s : State) (job : Job) : Type 0 where
-  pub stands : map.get s.jobs (leaf_of job) ≡ Some job
+  pub stands : map.get s.jobs (leaf_of_job job) ≡ Some job
   pub unsaved : Unsaved
-  pub beside : map.get s.unsaved (leaf_of job) ≡ Some unsaved
+  pub beside : map.get s.unsaved (leaf_of_job job) ≡ Some unsaved
   pub names : job.snapshot.names ≡ unsaved.dirty
 
 -- a job that begins is at hand, and those of other leaves stay so
 abbrev pub BegunAreAtHand : Type 0
 BegunAreAtHand =
     (old new : State) (leaf : Leaf) (job : Job) → Begins old new leaf (Ok (Some job)) → IsAtHand new job
-    × (leaf_of job ≡ leaf)
+    × (leaf_of_job job ≡ leaf)
 
 abbrev pub BegunLeaveAtHand : Type 0
 BegunLeaveAtHand =
-    (old new : State) (leaf : Leaf) (job other : Job) → Begins old new leaf (Ok (Some job)) → (leaf_of other ≡ leaf → ⊥)
+    (old new : State) (leaf : Leaf) (job other : Job) → Begins old new leaf (Ok (Some job)) → (leaf_of_job other ≡ leaf → ⊥)
     → IsAtHand old other → IsAtHand new other
 
 -- a job at hand that ends leaves its fragment clean, and other jobs at hand stay so
 abbrev pub EndedAreClean : Type 0
 EndedAreClean =
     (old new : State) (job : Job) → IsAtHand old job → IsEnded old new job
-    → new.unsaved ≡ map.remove old.unsaved (leaf_of job)
+    → new.unsaved ≡ map.remove old.unsaved (leaf_of_job job)
 
 abbrev pub OthersStayAtHand : Type 0
 OthersStayAtHand =
-    (old new : State) (job other : Job) → IsEnded old new job → (leaf_of other ≡ leaf_of job → ⊥) → IsAtHand old job
+    (old new : State) (job other : Job) → IsEnded old new job → (leaf_of_job other ≡ leaf_of_job job → ⊥) → IsAtHand old job
     → IsAtHand old other → IsAtHand new other

@@ -10,7 +10,7 @@ use Rattle.inode_table.specs.Dirs.{Counts, Covers, DirPins, Homes}
 use Rattle.inode_table.specs.TreeTable.{IsCounted}
 use Rattle.inode_table.specs.Numbers.{Supply}
 pub use Rattle.cold_store.specs.ColdTree.{IsColdTree, IsFaulty}
-pub use Rattle.cold_store.specs.Numbers.{IsNext, IsOfRank}
+pub use Rattle.cold_store.specs.Numbers.{IsNextNumber, IsOfRank}
 pub use Rattle.cold_store.specs.Walked.{IsWalked, MayFail}
 use Rattle.mdcache.specs.Core.{Core, state_of}
 use Rattle.mdcache.specs.New.{new_caches, new_tree_state}
@@ -57,7 +57,7 @@ Mounts limit objects ranks places tree c =
 -- for each of so many ranks the number that it hands out next beside a tree
 pub record AreNumbers (tree : Tree) (ranks : ℕ) (numbers : List Supply) : Type 0 where
   pub count : length numbers ≡ ranks
-  pub nexts : (rank : ℕ) (s : Supply) → slice_get numbers rank ≡ Some s → (s.rank ≡ rank) × IsNext tree s
+  pub nexts : (rank : ℕ) (s : Supply) → slice_get numbers rank ≡ Some s → (s.rank ≡ rank) × IsNextNumber tree s
 
 -- it is refused `Damaged` only with the name of a faulty object, and only where the store has objects, so never for the
 -- leaf of the root that a new store lacks; otherwise for want of memory, or a fault of the store, whose count of faults

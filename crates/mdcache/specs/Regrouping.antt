@@ -5,10 +5,10 @@ use Rattle.mds_types.specs.Frag.{Fragment}
 use Rattle.mds_types.specs.Leaf.{leaf_of}
 use Rattle.fragtree.specs.FragTree.{IsMerge, IsTree, leaves_inside}
 use Rattle.cached_frag.specs.declared.bases.Base.TheVariants.{Fresh}
-use Rattle.cached_frag.specs.Cached.{Cached, shown}
+use Rattle.cached_frag.specs.Cached.{Cached, shown_names}
 use Rattle.dentry_cache.specs.Cache.{Leaf}
 use Rattle.dentry_cache.specs.CacheMap.{CacheMap, unclean, with_frag}
-use Rattle.dentry_cache.specs.CacheSplits.{AreKept, IsKeptFor, IsReadyAt}
+use Rattle.dentry_cache.specs.CacheSplits.{HaveKeptPlaces, IsKeptFor, IsReadyAt}
 use Rattle.dentry_cache.specs.Divided.{AreNumbered}
 use Rattle.mds_types.specs.declared.dirfrags.Dirfrag.{Dirfrag}
 use Rattle.inode_table.specs.Dirs.{leaves_of}
@@ -38,7 +38,7 @@ pub record IsSplitReady (p : Core) (a : Dirfrag) (nb : ℕ) (split : Split) : Ty
   pub planned : IsSplitPlanned p a nb split.plan
   pub ready : IsReadyAt a.rank.0 a.dir a.frag nb p.caches split.parts
   pub numbered : AreNumbered p.next_generation split.parts
-  pub kept : AreKept p.caches a.rank.0 a.dir a.frag nb
+  pub kept : HaveKeptPlaces p.caches a.rank.0 a.dir a.frag nb
 
 -- a leaf was split: its directory has this cover, its job is gone, its object is to be removed and those of its
 -- children aren't; the children took generations, and their names a version, if there are any
@@ -95,5 +95,5 @@ merged_in p a plan joined room =
       covers = map.insert p.covers a.dir.0 plan.cover;
       purge = map.remove left.purge (text_of (leaf_of a));
       next_generation = p.next_generation + 1;
-      next_version = p.next_version + cond (has_none (shown joined)) 0 1;
+      next_version = p.next_version + cond (has_none (shown_names joined)) 0 1;
     }

@@ -35,9 +35,9 @@ entries_under names d [] = []
 entries_under names d (f ∷ leaves) =
     entries_of d (finmap.entries (names (record { 0 = d }, f))) ++ entries_under names d leaves
 
-abbrev pub entries_in : (Leaf → Names) → Covers → List ℕ → List (Dentry × Inode)
-entries_in names covers [] = []
-entries_in names covers (d ∷ dirs) = entries_under names d (leaves_of covers d) ++ entries_in names covers dirs
+abbrev pub dentries_in : (Leaf → Names) → Covers → List ℕ → List (Dentry × Inode)
+dentries_in names covers [] = []
+dentries_in names covers (d ∷ dirs) = entries_under names d (leaves_of covers d) ++ dentries_in names covers dirs
 
 -- the directories of the table: the root, 1, and those that have a home
 abbrev pub directories : Homes → List ℕ
@@ -45,7 +45,7 @@ directories homes = 1 ∷ finmap.keys homes
 
 -- the tree that leaves with such names show: the entries of all live leaves
 unfoldable pub tree_of : Homes → Covers → (Leaf → Names) → Tree
-tree_of homes covers names = finmap.from_entries (entries_in names covers (directories homes))
+tree_of homes covers names = finmap.from_entries (dentries_in names covers (directories homes))
 
 -- the shown tree
 abbrev pub shown_tree : State → Tree

@@ -48,8 +48,8 @@ pub record IsStandingJob (s : State) (leaf : Leaf) (job : Job) : Type 0 where
   pub taken : IsOf job unsaved (object_of s.objects leaf.0 leaf.1)
 
 -- an object is that of a live leaf, or the tree object of a directory whose leaves were set, or is to be removed
-abbrev pub IsOwned : State → List ℕ → Type 0
-IsOwned s name =
+abbrev pub HasOwner : State → List ℕ → Type 0
+HasOwner s name =
     ((leaf : Leaf) × IsLive s.homes s.covers leaf × (name ≡ text_of leaf))
     ⊎ ((dir : Ino) × (is_some (map.get s.covers dir.0) ≡ true) × (name ≡ tree_text dir))
     ⊎ (is_some (map.get s.purge name) ≡ true)
@@ -74,7 +74,7 @@ pub record IsSound (s : State) : Type 0 where
   pub saved : (leaf : Leaf) → IsLive s.homes s.covers leaf → map.get s.unsaved leaf ≡ None
       → IsSaved leaf.1 (object_of s.objects leaf.0 leaf.1)
   -- no object lies there that nothing owns
-  pub owned : (name : List ℕ) → is_some (map.get s.objects name) ≡ true → IsOwned s name
+  pub owned : (name : List ℕ) → is_some (map.get s.objects name) ≡ true → HasOwner s name
   -- no object of a live leaf is to be removed
   pub listed : (leaf : Leaf) → IsLive s.homes s.covers leaf → map.get s.purge (text_of leaf) ≡ None
   -- each job is of a fragment that isn't clean, and no two have one number

@@ -13,7 +13,7 @@ ghost use Rattle.dentry_cache.specs.CacheSplits.{IsKeptFor};
 ghost use Rattle.inode_table.specs.Dirs.{MayCome, MayGo, MayMove, count_of, is_known};
 ghost use Rattle.inode_table.specs.TreeTable.{with_home};
 ghost use Rattle.mdcache.specs.Changes.{first_leaf};
-ghost use Rattle.mdcache.specs.Core.{moved_entry, named, pinned, shows, with_dir, with_entry, without_dir, without_entry};
+ghost use Rattle.mdcache.specs.Core.{moved_entry, named, pinned, shows, with_dir, with_entry_counted, without_dir, without_entry};
 ghost use Rattle.mdcache.specs.Frags.{HasListRoom};
 
 use crate::mdcache::MdCache;
@@ -31,7 +31,7 @@ impl<S: Store + Drop> MdCache<S> {
         requires version { self.old.next_version < 2 ^ 64 - 1 }
         requires known { is_known self.old.homes spot.at.dir.0 ≡ true }
         requires few { count_of self.old.counts spot.at.dir.0 < 2 ^ 64 - 1 }
-        ensures { self.new ≡ with_entry (named self.old spot.at spot.name (Some inode)) spot.at.dir }
+        ensures { self.new ≡ with_entry_counted (named self.old spot.at spot.name (Some inode)) spot.at.dir }
     {
         self.put(spot.at, spot.name, inode);
         self.entry_comes(spot.at.dir);
@@ -62,7 +62,7 @@ impl<S: Store + Drop> MdCache<S> {
         requires may { MayCome self.old.homes inode.ino.0 (record { parent = spot.at.dir; name = name }) }
         requires place { IsKeptFor self.old.caches spot.at.rank.0 (first_leaf inode.ino) }
         requires generation { self.old.next_generation < 2 ^ 64 - 1 }
-        ensures { self.new ≡ with_dir (with_entry (named self.old spot.at spot.name (Some inode)) spot.at.dir)
+        ensures { self.new ≡ with_dir (with_entry_counted (named self.old spot.at spot.name (Some inode)) spot.at.dir)
             (record { dir = inode.ino; frag = root_fragment; rank = spot.at.rank })
             (record { parent = spot.at.dir; name = name }) self.new.room }
     {

@@ -8,8 +8,8 @@ ghost use Rattle.mds_types.specs.Leaf.{leaf_of};
 ghost use Rattle.mds_types.specs.declared.refusals.Refusal.TheVariants.{NoMemory};
 ghost use Rattle.dentry_cache.specs.CacheMap.{unclean};
 ghost use Rattle.mdcache.specs.Batches.{AreOfOtherLeaves, CommitsWhole, IsBegunAt, IsReadied, IsReadyWrite, IsUncleanAt, MayNotBeginAll};
-ghost use Rattle.mdcache.specs.Batches.{MayNotBeginOne, MayNotCommit, leaves_at, leaves_of_jobs, leaves_of_writes, ready_of};
-ghost use Rattle.mdcache.specs.Commits.{Begins, IsEnded, leaf_of as job_leaf};
+ghost use Rattle.mdcache.specs.Batches.{MayNotBeginOne, MayNotCommit, leaves_of_places, leaves_of_jobs, leaves_of_writes, ready_of};
+ghost use Rattle.mdcache.specs.Commits.{Begins, IsEnded, leaf_of_job};
 ghost use Rattle.mdcache.specs.Core.{IsSoundCore, state_of};
 ghost use Rattle.mdcache.specs.Flushed.{IsAtHand, KeepsTree};
 ghost use Rattle.mdcache.specs.Ranks.{MayHold};
@@ -113,7 +113,7 @@ impl<S: Store + Drop> MdCache<S> {
     fn next_batch(&self, alloc: Global) -> Result<Vec<Dirfrag>, Refusal>
         requires { length self.now.caches.used ≤ 256 }
         ensures unclean { IfOk result (λ leaves. AllByRecursion (IsUncleanAt self.now.caches) leaves.items) }
-        ensures apart { IfOk result (λ leaves. AreOfOtherLeaves (leaves_at leaves.items)) }
+        ensures apart { IfOk result (λ leaves. AreOfOtherLeaves (leaves_of_places leaves.items)) }
         ensures few { IfOk result (λ leaves. length leaves.items ≤ 256) }
         ensures none { IfOk result (λ leaves. leaves.items ≡ [] → unclean self.now.caches ≡ map.empty) }
         ensures refused { IfErr result (λ reason. reason ≡ NoMemory) }
@@ -134,7 +134,7 @@ impl<S: Store + Drop> MdCache<S> {
     ) -> Result<(), Refusal>
         requires sound { IsSoundCore self.old }
         requires none { self.old.jobs ≡ map.empty }
-        requires apart { AreOfOtherLeaves (leaves_at leaves.now) }
+        requires apart { AreOfOtherLeaves (leaves_of_places leaves.now) }
         requires unclean { AllByRecursion (IsUncleanAt self.old.caches) leaves.now }
         ensures whole { CommitsWhole (state_of self.old) (state_of self.new) }
         ensures jobs { self.new.jobs ≡ map.empty }
@@ -182,7 +182,7 @@ impl<S: Store + Drop> MdCache<S> {
     ) -> Result<(), Refusal>
         requires sound { IsSoundCore self.old }
         requires none { self.old.jobs ≡ map.empty }
-        requires apart { AreOfOtherLeaves (leaves_at leaves.now) }
+        requires apart { AreOfOtherLeaves (leaves_of_places leaves.now) }
         requires unclean { AllByRecursion (IsUncleanAt self.old.caches) leaves.now }
         ensures whole { CommitsWhole (state_of self.old) (state_of self.new) }
         ensures fewer { OnOk result
@@ -215,10 +215,10 @@ impl<S: Store + Drop> MdCache<S> {
     ) -> Result<Vec<Begun>, Refusal>
         requires sound { IsSoundCore self.old }
         requires none { self.old.jobs ≡ map.empty }
-        requires apart { AreOfOtherLeaves (leaves_at leaves.now) }
+        requires apart { AreOfOtherLeaves (leaves_of_places leaves.now) }
         requires unclean { AllByRecursion (IsUncleanAt self.old.caches) leaves.now }
         ensures begun { IfOk result (λ begun. AllByRecursion (IsBegunAt self.new) begun.items) }
-        ensures leaves { IfOk result (λ begun. leaves_of_jobs begun.items ≡ leaves_at leaves.now) }
+        ensures leaves { IfOk result (λ begun. leaves_of_jobs begun.items ≡ leaves_of_places leaves.now) }
         ensures left { state_of self.new ≡ record
             (state_of self.old) { jobs = self.new.jobs; next_job = self.new.next_job } }
         ensures tree { KeepsTree self.old self.new }
@@ -291,7 +291,7 @@ impl<S: Store + Drop> MdCache<S> {
         encoded: &Encoded,
     ) -> Result<(), Refusal>
         requires sound { IsSoundCore self.old }
-        requires holds { MayHold self.old.caches rank (job_leaf encoded.now.job) }
+        requires holds { MayHold self.old.caches rank (leaf_of_job encoded.now.job) }
         requires begun { IsAtHand (state_of self.old) encoded.now.job }
         ensures ended { OnOk result (IsEnded (state_of self.old) (state_of self.new) encoded.now.job) }
         ensures whole { CommitsWhole (state_of self.old) (state_of self.new) }

@@ -10,7 +10,7 @@ ghost use Rattle.dentry_cache.specs.CacheMap.{has_place, here};
 ghost use Rattle.inode_table.specs.Dirs.{MayCome, MayGo, MayMove, count_of, is_known};
 ghost use Rattle.inode_table.specs.TreeTable.{counts_moved, with_home};
 ghost use Rattle.mdcache.specs.Changes.{leaves_in};
-ghost use Rattle.mdcache.specs.Core.{named, pinned, with_dir, with_entry, without_dir, without_entry, without_frags};
+ghost use Rattle.mdcache.specs.Core.{named, pinned, with_dir, with_entry_counted, without_dir, without_entry, without_frags};
 ghost use Rattle.mdcache.specs.Frags.{HasListRoom};
 
 use crate::mdcache::MdCache;
@@ -50,7 +50,7 @@ impl<S: Store + Drop> MdCache<S> {
     pub(crate) fn entry_comes(&mut self, dir: Ino)
         requires known { is_known self.old.homes dir.0 ≡ true }
         requires few { count_of self.old.counts dir.0 < 2 ^ 64 - 1 }
-        ensures { self.new ≡ with_entry self.old dir }
+        ensures { self.new ≡ with_entry_counted self.old dir }
     {
         self.dirs.entry_comes(dir);
     }

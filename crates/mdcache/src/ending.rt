@@ -4,7 +4,7 @@ ghost use Rattle.std.specs.Result.{result_err};
 ghost use Rattle.std.specs.FinMap as map;
 ghost use Rattle.objstore.specs.Objects.{faults_told};
 ghost use Rattle.dentry_cache.specs.Came.{Came, IsThat, NoneEnds};
-ghost use Rattle.mdcache.specs.Commits.{EndsJobOf, leaf_of};
+ghost use Rattle.mdcache.specs.Commits.{EndsJobOf, leaf_of_job};
 ghost use Rattle.mdcache.specs.Core.{IsSoundCore, state_of};
 ghost use Rattle.mdcache.specs.Ranks.{MayHold};
 
@@ -23,10 +23,10 @@ impl<S: Store + Drop> MdCache<S> {
     /// the store refuses the write, and `NoMemory`: all stays dirty then, and the job stands.
     pub fn end(&mut self, alloc: Global, rank: Rank, encoded: &Encoded) -> Result<(), Refusal>
         requires sound { IsSoundCore self.old }
-        requires holds { MayHold self.old.caches rank (leaf_of encoded.now.job) }
+        requires holds { MayHold self.old.caches rank (leaf_of_job encoded.now.job) }
         ensures ended { EndsJobOf (state_of self.old)
             (state_of self.new) self.old.faults self.new.faults encoded.now.job result }
-        ensures came { Came (IsThat rank.0 (leaf_of encoded.now.job)) NoneEnds self.old.caches self.new.caches }
+        ensures came { Came (IsThat rank.0 (leaf_of_job encoded.now.job)) NoneEnds self.old.caches self.new.caches }
         ensures counted { self.new.faults ≡ self.old.faults + faults_told (result_err result) }
         ensures sound { IsSoundCore self.new }
     {
@@ -47,7 +47,7 @@ impl<S: Store + Drop> MdCache<S> {
 
 // Whether this very job stands.
 fn stands(jobs: &StandingJobs, job: &Job) -> bool
-    ensures { IsTrue result ↔ (map.get jobs.now.jobs (leaf_of job.now) ≡ Some job.now) }
+    ensures { IsTrue result ↔ (map.get jobs.now.jobs (leaf_of_job job.now) ≡ Some job.now) }
 {
     match jobs.get(job.ino, job.frag) {
         Some(standing) => standing.same(job),

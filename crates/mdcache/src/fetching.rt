@@ -4,7 +4,7 @@ ghost use Rattle.std.specs.Result.{result_err};
 ghost use Rattle.std.specs.FinMap as map;
 ghost use Rattle.mds_types.specs.Leaf.{leaf_of};
 ghost use Rattle.objstore.specs.Objects.{faults_told};
-ghost use Rattle.cached_frag.specs.Cached.{Cached, shown};
+ghost use Rattle.cached_frag.specs.Cached.{Cached, shown_names};
 ghost use Rattle.dentry_cache.specs.Cache.{HasCached, IsThere};
 ghost use Rattle.dentry_cache.specs.CacheCalls.{KeepsNone};
 ghost use Rattle.dentry_cache.specs.CacheMap.{AreCaches, here};
@@ -122,7 +122,7 @@ impl<S: Store + Drop> MdCache<S> {
         requires none { KeepsNone self.old.caches }
         ensures found { IfOk result
             (λ found. HasCached (here self.new.caches at.now.rank.0 (leaf_of at.now))
-            (λ (f : Cached). found ≡ map.get (shown f) name.now)) }
+            (λ (f : Cached). found ≡ map.get (shown_names f) name.now)) }
         ensures newest { OnOk result (IsNewestOf self.new.caches at.now.rank.0 (leaf_of at.now)) }
         ensures reads { ReadsCore (IsThat at.now.rank.0 (leaf_of at.now)) NoneEnds self.old self.new }
         ensures none { KeepsNone self.new.caches }

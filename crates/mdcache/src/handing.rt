@@ -2,7 +2,7 @@
 ghost use Rattle.std.specs.Prelude.{◌≡◌, ◌≢◌, ◌<◌, length, IfErr, OnErr, OnOk};
 ghost use Rattle.std.specs.List.{IsDistinct};
 ghost use Rattle.mds_types.specs.Leaf.{leaf_is};
-ghost use Rattle.dentry_cache.specs.Handing.{AreCleanAt, AreUncleanAt, HandsOver, MayNotHandOver};
+ghost use Rattle.dentry_cache.specs.Handing.{AreCleanAt, AreUncleanAt, HandsFragmentsOver, MayNotHandOver};
 ghost use Rattle.mdcache.specs.Core.{IsSoundCore, shown_in, state_of};
 ghost use Rattle.mdcache.specs.Given.{HaveNoJobs, IsGivenOver};
 
@@ -34,7 +34,7 @@ impl<S: Store + Drop> MdCache<S> {
         requires saved { AreCleanAt self.old.caches from.0 clean.now }
         requires once { IsDistinct leaf_is unclean.now }
         requires jobless { HaveNoJobs self.old.jobs unclean.now }
-        ensures handed { OnOk result (HandsOver from.0 to.0 unclean.now clean.now self.old.caches self.new.caches) }
+        ensures handed { OnOk result (HandsFragmentsOver from.0 to.0 unclean.now clean.now self.old.caches self.new.caches) }
         ensures given { OnOk result (IsGivenOver unclean.now (state_of self.old) (state_of self.new)) }
         ensures shown { shown_in self.new ≡ shown_in self.old }
         ensures refused { IfErr result (MayNotHandOver to.0 unclean.now self.old.caches self.new.caches) }

@@ -8,8 +8,8 @@ ghost use Rattle.objstore.specs.Omap.{key_cmp};
 ghost use Rattle.objstore.specs.Objects.{faults_told};
 ghost use Rattle.sorted_map.specs.Places.{puts};
 ghost use Rattle.mds_types.specs.Leaf.{leaf_of};
-ghost use Rattle.cached_frag.specs.Cached.{Cached, shown};
-ghost use Rattle.cached_frag.specs.Rows.{Row, rows_after};
+ghost use Rattle.cached_frag.specs.Cached.{Cached, shown_names};
+ghost use Rattle.cached_frag.specs.Rows.{NamedInode, rows_after};
 ghost use Rattle.dentry_cache.specs.Cache.{HasCached, IsThere};
 ghost use Rattle.dentry_cache.specs.CacheCalls.{KeepsNone};
 ghost use Rattle.dentry_cache.specs.CacheMap.{here, unclean};
@@ -46,7 +46,7 @@ impl<S: Store + Drop> MdCache<S> {
         requires sound { IsSoundCore self.old }
         requires live { IsLive self.old.homes self.old.covers (leaf_of at.now) }
         requires holds { MayHold self.old.caches at.now.rank (leaf_of at.now) }
-        ensures page { (whole : List Row) → IsPageOf whole page.old
+        ensures page { (whole : List NamedInode) → IsPageOf whole page.old
             → OnOk result (IsPageOf (puts key_cmp whole (rows_after (option_copied after.entry)
             (map.entries (names_of (unclean self.old.caches) self.old.objects (leaf_of at.now))))) page.new) }
         ensures most { page.new.most ≡ page.old.most }
@@ -71,8 +71,8 @@ impl<S: Store + Drop> MdCache<S> {
         requires none { KeepsNone self.old.caches }
         ensures page { OnOk result
             (HasCached (here self.new.caches at.now.rank.0 (leaf_of at.now))
-            (λ (f : Cached). (whole : List Row) → IsPageOf whole page.old
-            → IsPageOf (puts key_cmp whole (rows_after (option_copied after.entry) (map.entries (shown f))))
+            (λ (f : Cached). (whole : List NamedInode) → IsPageOf whole page.old
+            → IsPageOf (puts key_cmp whole (rows_after (option_copied after.entry) (map.entries (shown_names f))))
             page.new)) }
         ensures most { page.new.most ≡ page.old.most }
         ensures reads { ReadsCore (IsThat at.now.rank.0 (leaf_of at.now)) NoneEnds self.old self.new }
@@ -99,8 +99,8 @@ fn gather_cached(
     requires cached { IsThere (here caches.now at.now.rank.0 (leaf_of at.now)) }
     ensures page { OnOk result
         (HasCached (here caches.now at.now.rank.0 (leaf_of at.now))
-        (λ (f : Cached). (whole : List Row) → IsPageOf whole page.old
-        → IsPageOf (puts key_cmp whole (rows_after (option_copied after.entry) (map.entries (shown f)))) page.new)) }
+        (λ (f : Cached). (whole : List NamedInode) → IsPageOf whole page.old
+        → IsPageOf (puts key_cmp whole (rows_after (option_copied after.entry) (map.entries (shown_names f)))) page.new)) }
     ensures most { page.new.most ≡ page.old.most }
     ensures refused { IfErr result (λ reason. reason ≡ NoMemory) }
 {

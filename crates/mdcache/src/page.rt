@@ -4,7 +4,7 @@ ghost use Rattle.std.specs.List.Sorted.{IsSearchInRange};
 ghost use Rattle.std.specs.FinMap.{is_sorted};
 ghost use Rattle.objstore.specs.Omap.{key_cmp};
 ghost use Rattle.sorted_map.specs.Places.{IsPlace, puts};
-ghost use Rattle.cached_frag.specs.Rows.{Row, rows_left};
+ghost use Rattle.cached_frag.specs.Rows.{NamedInode, rows_left};
 ghost use Rattle.mdcache.specs.Pages.{IsBeyond, IsPageOf, TakesRow};
 
 use cached_frag::Rows;
@@ -57,7 +57,7 @@ impl Page {
     /// Takes in names of a leaf, which come in order, up to the first that can't be in the page. Takes memory for those
     /// that are in the page then; where it lacks, some of them may be in, and the page is of no more use.
     pub fn take_rows(&mut self, mut rows: Rows<'_>) -> Result<(), AllocError>
-        ensures page { (whole : List Row) → IsPageOf whole self.old → T (is_sorted key_cmp (rows_left rows.entry))
+        ensures page { (whole : List NamedInode) → IsPageOf whole self.old → T (is_sorted key_cmp (rows_left rows.entry))
             → OnOk result (IsPageOf (puts key_cmp whole (rows_left rows.entry)) self.new) }
         ensures most { self.new.most ≡ self.old.most }
     {
@@ -115,7 +115,7 @@ fn place_of(rows: &[(Name, Inode)], name: &Name) -> Result<usize, usize>
 // Gives the name at a place another inode.
 fn set_inode(rows: &mut Vec<(Name, Inode)>, at: usize, inode: Inode)
     requires { at < length rows.old.items }
-    ensures { (d : Row) → rows.new.items ≡ slice_set rows.old.items at ((slice_index_or rows.old.items at d).0, inode) }
+    ensures { (d : NamedInode) → rows.new.items ≡ slice_set rows.old.items at ((slice_index_or rows.old.items at d).0, inode) }
 {
     rows[at].1 = inode;
 }

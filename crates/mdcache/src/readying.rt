@@ -6,7 +6,7 @@ ghost use Rattle.mds_types.specs.declared.refusals.Refusal.TheVariants.{NoInodes
 ghost use Rattle.mds_types.specs.Leaf.{leaf_of};
 ghost use Rattle.objstore.specs.Objects.{faults_told};
 ghost use Rattle.dirfrag_codec.specs.EntryRecord.{IsRecordable};
-ghost use Rattle.cached_frag.specs.Cached.{Cached, shown};
+ghost use Rattle.cached_frag.specs.Cached.{Cached, shown_names};
 ghost use Rattle.dentry_cache.specs.Cache.{HasCached, HasRoom, IsThere, Leaf};
 ghost use Rattle.dentry_cache.specs.CacheMap.{here, unclean};
 ghost use Rattle.dentry_cache.specs.Came.{IsThat, NoneEnds};
@@ -240,7 +240,7 @@ pub(crate) fn has_records(caches: &Caches, at: &Dirfrag)
     requires there { at.now.rank.0 < length caches.now.used }
     requires cached { IsThere (here caches.now at.now.rank.0 (leaf_of at.now)) }
     ensures { HasCached (here caches.now at.now.rank.0 (leaf_of at.now))
-        (λ (f : Cached). (name : List ℕ) → IfSome (map.get (shown f) name) IsRecordable) }
+        (λ (f : Cached). (name : List ℕ) → IfSome (map.get (shown_names f) name) IsRecordable) }
 {
     if let Some(fragment) = caches.get(*at) {
         fragment.has_records();

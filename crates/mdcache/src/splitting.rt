@@ -9,11 +9,11 @@ ghost use Rattle.mds_types.specs.Leaf.{leaf_of};
 ghost use Rattle.objstore.specs.Objects.{faults_told};
 ghost use Rattle.mds_types.specs.declared.refusals.Refusal.TheVariants.{NoMemory};
 ghost use Rattle.fragtree.specs.FragTree.{CanSplit, IsSplit, IsTree};
-ghost use Rattle.cached_frag.specs.Cached.{Cached, shown};
+ghost use Rattle.cached_frag.specs.Cached.{Cached, shown_names};
 ghost use Rattle.dentry_cache.specs.Cache.{HasCached, IsThere, Leaf, leaf_is};
-ghost use Rattle.dentry_cache.specs.CacheCalls.{IsWhole, KeepsNone};
+ghost use Rattle.dentry_cache.specs.CacheCalls.{HasNoKeptPlace, KeepsNone};
 ghost use Rattle.dentry_cache.specs.CacheMap.{here, order};
-ghost use Rattle.dentry_cache.specs.CacheSplits.{AreKept, IsChildAt, IsFamilyAt, IsReadyAt, SplitsInto, without_children};
+ghost use Rattle.dentry_cache.specs.CacheSplits.{HaveKeptPlaces, IsChildAt, IsFamilyAt, IsReadyAt, SplitsInto, without_children};
 ghost use Rattle.dentry_cache.specs.Came.{Came};
 ghost use Rattle.dentry_cache.specs.Divided.{AreNumbered};
 ghost use Rattle.inode_table.specs.Dirs.{is_known, leaves_of};
@@ -110,7 +110,7 @@ impl<S: Store + Drop> MdCache<S> {
         requires can { CanSplit (leaves_of self.old.covers at.now.dir.0) at.now.frag nb }
         requires generations { self.old.next_generation + 2 ^ nb < 2 ^ 64 }
         ensures ready { IfOk result (IsSplitReady self.new at.now nb) }
-        ensures only { OnOk result ((r : ℕ) (q : Leaf) → IsWhole self.new.caches r q
+        ensures only { OnOk result ((r : ℕ) (q : Leaf) → HasNoKeptPlace self.new.caches r q
             ⊎ IsChildAt at.now.rank.0 at.now.dir at.now.frag nb r q) }
         ensures distinct { OnOk result (IsDistinct leaf_is (order self.new.caches at.now.rank.0)) }
         ensures reads { ReadsCore (IsFamilyAt at.now.rank.0 at.now.dir at.now.frag nb)
@@ -147,8 +147,8 @@ impl<S: Store + Drop> MdCache<S> {
         requires generations { self.old.next_generation + 2 ^ nb < 2 ^ 64 }
         ensures ready { IfOk result (IsReadyAt at.now.rank.0 at.now.dir at.now.frag nb self.new.caches) }
         ensures numbered { IfOk result (AreNumbered self.new.next_generation) }
-        ensures kept { OnOk result (AreKept self.new.caches at.now.rank.0 at.now.dir at.now.frag nb) }
-        ensures only { OnOk result ((r : ℕ) (q : Leaf) → IsWhole self.new.caches r q
+        ensures kept { OnOk result (HaveKeptPlaces self.new.caches at.now.rank.0 at.now.dir at.now.frag nb) }
+        ensures only { OnOk result ((r : ℕ) (q : Leaf) → HasNoKeptPlace self.new.caches r q
             ⊎ IsChildAt at.now.rank.0 at.now.dir at.now.frag nb r q) }
         ensures none { OnErr result (KeepsNone self.new.caches) }
         ensures reads { ReadsCore (IsFamilyAt at.now.rank.0 at.now.dir at.now.frag nb)
@@ -191,7 +191,7 @@ impl<S: Store + Drop> MdCache<S> {
         ensures whole { OnOk result (IsTree (leaves_of self.new.covers at.now.dir.0)) }
         ensures split { OnOk result
             ((empty : Bool) × HasCached (here self.old.caches at.now.rank.0 (leaf_of at.now))
-            (λ (f : Cached). empty ≡ has_none (shown f))
+            (λ (f : Cached). empty ≡ has_none (shown_names f))
             × (self.new ≡ split_in self.old at.now nb split.plan
             (leaves_of self.new.covers at.now.dir.0) empty self.new.caches self.new.room)) }
         ensures left { OnErr result
@@ -230,7 +230,7 @@ fn unlist(purge: &mut PurgeList, names: &Vec<ObjText>)
 fn is_cached_empty(caches: &Caches, at: &Dirfrag) -> bool
     requires there { at.now.rank.0 < length caches.now.used }
     requires cached { IsThere (here caches.now at.now.rank.0 (leaf_of at.now)) }
-    ensures { HasCached (here caches.now at.now.rank.0 (leaf_of at.now)) (λ (f : Cached). result ≡ has_none (shown f)) }
+    ensures { HasCached (here caches.now at.now.rank.0 (leaf_of at.now)) (λ (f : Cached). result ≡ has_none (shown_names f)) }
 {
     match caches.get(*at) {
         Some(fragment) => fragment.len() == 0,

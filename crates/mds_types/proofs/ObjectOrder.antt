@@ -9,7 +9,7 @@ use Rattle.std.specs.Ordering.{MatchOrdering, ordering_then}
 use Rattle.mds_types.specs.declared.object_names.ObjName.{ObjName}
 use Rattle.mds_types.specs.declared.object_names.ObjName.TheVariants.{Frag, Tree}
 use Rattle.mds_types.specs.Frag.{word_of}
-use Rattle.mds_types.specs.ObjectText.{is_tree, is_whole, number_of, object_text, word_text}
+use Rattle.mds_types.specs.ObjectText.{is_tree, is_whole, dir_number, object_text, word_text}
 use Rattle.mds_types.proofs.ByteOrderLaws.{equal, greater, less}
 
 -- ---- digits and what stands behind them
@@ -113,19 +113,19 @@ abbrev pub rest_of : ObjName → List ℕ
 rest_of (Frag ino frag) = codes "." ++ word_text (word_of frag)
 rest_of (Tree ino) = codes ".fragtree"
 
-text_is : (name : ObjName) → object_text name ≡ digits_onto 64 16 false (number_of name) (rest_of name)
+text_is : (name : ObjName) → object_text name ≡ digits_onto 64 16 false (dir_number name) (rest_of name)
 text_is (Frag ino frag) = digits_before ino.0 (codes "." ++ word_text (word_of frag))
 text_is (Tree ino) = digits_before ino.0 (codes ".fragtree")
 
 -- texts of directories with eleven digits compare as the directories' numbers, where these differ
-pub by_numbers : (x y : ObjName) → IsLong 10 (number_of x) → IsLong 10 (number_of y) → number_of x ≢ number_of y
-    → slice_cmp nat_cmp (object_text x) (object_text y) ≡ nat_cmp (number_of x) (number_of y)
+pub by_numbers : (x y : ObjName) → IsLong 10 (dir_number x) → IsLong 10 (dir_number y) → dir_number x ≢ dir_number y
+    → slice_cmp nat_cmp (object_text x) (object_text y) ≡ nat_cmp (dir_number x) (dir_number y)
 by_numbers x y one two differ =
     ap₂ (slice_cmp nat_cmp) (text_is x) (text_is y)
-    ∙ order_onto 10 64 (number_of x) (number_of y) (rest_of x) (rest_of y) (omega arith) one two
-    ∙ settled (nat_cmp (number_of x) (number_of y)) (ranks (number_of x) (number_of y))
+    ∙ order_onto 10 64 (dir_number x) (dir_number y) (rest_of x) (rest_of y) (omega arith) one two
+    ∙ settled (nat_cmp (dir_number x) (dir_number y)) (ranks (dir_number x) (dir_number y))
   where
-    settled : (r : Ordering) → MatchOrdering r (number_of x < number_of y) (number_of x ≡ number_of y) (number_of y < number_of x)
+    settled : (r : Ordering) → MatchOrdering r (dir_number x < dir_number y) (dir_number x ≡ dir_number y) (dir_number y < dir_number x)
         → ordering_then r (slice_cmp nat_cmp (rest_of x) (rest_of y)) ≡ r
     settled Less l = refl
     settled Equal l = absurd (differ l)
@@ -146,7 +146,7 @@ tree_last : slice_cmp nat_cmp (codes ".fragtree") (codes "." ++ word_text 0) ≡
 unfolding digits
 tree_last = refl
 
-pub whole_before_tree : (x y : ObjName) → number_of x ≡ number_of y → is_whole x ≡ true → is_tree y ≡ true → Less ≡ slice_cmp nat_cmp (object_text x) (object_text y)
+pub whole_before_tree : (x y : ObjName) → dir_number x ≡ dir_number y → is_whole x ≡ true → is_tree y ≡ true → Less ≡ slice_cmp nat_cmp (object_text x) (object_text y)
 whole_before_tree (Frag ino frag) (Tree other) same whole tree = sym
     (ap (λ n. slice_cmp nat_cmp (digits 16 false ino.0 ++ (codes "." ++ word_text (word_of frag))) (digits 16 false n ++ codes ".fragtree")) (sym same)
     ∙ past_front (digits 16 false ino.0) (codes "." ++ word_text (word_of frag)) (codes ".fragtree")
@@ -154,7 +154,7 @@ whole_before_tree (Frag ino frag) (Tree other) same whole tree = sym
 whole_before_tree (Frag ino frag) (Frag other part) same whole tree = absurd cc
 whole_before_tree (Tree ino) y same whole tree = absurd cc
 
-pub tree_behind_whole : (x y : ObjName) → number_of x ≡ number_of y → is_tree x ≡ true → is_whole y ≡ true → Greater ≡ slice_cmp nat_cmp (object_text x) (object_text y)
+pub tree_behind_whole : (x y : ObjName) → dir_number x ≡ dir_number y → is_tree x ≡ true → is_whole y ≡ true → Greater ≡ slice_cmp nat_cmp (object_text x) (object_text y)
 tree_behind_whole (Tree ino) (Frag other frag) same tree whole = sym
     (ap (λ n. slice_cmp nat_cmp (digits 16 false ino.0 ++ codes ".fragtree") (digits 16 false n ++ (codes "." ++ word_text (word_of frag)))) (sym same)
     ∙ past_front (digits 16 false ino.0) (codes ".fragtree") (codes "." ++ word_text (word_of frag))
@@ -162,14 +162,14 @@ tree_behind_whole (Tree ino) (Frag other frag) same tree whole = sym
 tree_behind_whole (Tree ino) (Tree other) same tree whole = absurd cc
 tree_behind_whole (Frag ino frag) y same tree whole = absurd cc
 
-pub same_trees : (x y : ObjName) → number_of x ≡ number_of y → is_tree x ≡ true → is_tree y ≡ true → Equal ≡ slice_cmp nat_cmp (object_text x) (object_text y)
+pub same_trees : (x y : ObjName) → dir_number x ≡ dir_number y → is_tree x ≡ true → is_tree y ≡ true → Equal ≡ slice_cmp nat_cmp (object_text x) (object_text y)
 same_trees (Tree ino) (Tree other) same one two = sym
     (ap (λ n. slice_cmp nat_cmp (digits 16 false ino.0 ++ codes ".fragtree") (digits 16 false n ++ codes ".fragtree")) (sym same)
     ∙ past_front (digits 16 false ino.0) (codes ".fragtree") (codes ".fragtree"))
 same_trees (Tree ino) (Frag other frag) same one two = absurd cc
 same_trees (Frag ino frag) y same one two = absurd cc
 
-pub by_numbers_of : (x y : ObjName) (a b : ℕ) → a ≡ number_of x → b ≡ number_of y → (1099511627776 ≤ a) × (a < 17592186044416) → (1099511627776 ≤ b) × (b < 17592186044416) → a ≢ b
+pub by_numbers_of : (x y : ObjName) (a b : ℕ) → a ≡ dir_number x → b ≡ dir_number y → (1099511627776 ≤ a) × (a < 17592186044416) → (1099511627776 ≤ b) × (b < 17592186044416) → a ≢ b
     → nat_cmp a b ≡ slice_cmp nat_cmp (object_text x) (object_text y)
 by_numbers_of x y a b one two (low, high) (lower, higher) differ =
     ap₂ nat_cmp one two ∙ sym (by_numbers x y (subst (IsLong 10) one (eleven_digits a low high)) (subst (IsLong 10) two (eleven_digits b lower higher)) (λ same. differ (one ∙ same ∙ sym two)))

@@ -7,9 +7,9 @@ use Rattle.mds_types.specs.declared.replies.Reply.{Reply}
 use Rattle.mds_types.specs.declared.replies.Reply.TheVariants.{Entry, Entries, Target, Done, Errno}
 
 -- the value is made; or memory is wanting, and then it was to be taken
-abbrev pub IsMade : {A E : Type 0} → A → (TakesMemory : Type 0) → Result A E → Type 0
-IsMade value TakesMemory (Ok made) = made ≡ value
-IsMade value TakesMemory (Err refused) = TakesMemory
+abbrev pub IsMadeOrLacks : {A E : Type 0} → A → (TakesMemory : Type 0) → Result A E → Type 0
+IsMadeOrLacks value TakesMemory (Ok made) = made ≡ value
+IsMadeOrLacks value TakesMemory (Err refused) = TakesMemory
 
 -- a link has a target
 abbrev pub HasLink : Kind → Type 0
@@ -17,9 +17,9 @@ HasLink File = ⊥
 HasLink Dir = ⊥
 HasLink (Symlink target) = Unit {0}
 
-abbrev pub IsLink : Option Inode → Type 0
-IsLink None = ⊥
-IsLink (Some inode) = HasLink inode.kind
+abbrev pub IsLinkInode : Option Inode → Type 0
+IsLinkInode None = ⊥
+IsLinkInode (Some inode) = HasLink inode.kind
 
 -- a reply has memory of its own: a listing that isn't empty, or the target of a link
 abbrev pub OwnsMemory : Reply → Type 0

@@ -26,9 +26,9 @@ abbrev pub TextsDiffer : Type 0
 TextsDiffer = (a b : ObjName) → IsObjName a → IsObjName b → object_text a ≡ object_text b → a ≡ b
 
 -- the number of an object's directory
-abbrev pub number_of : ObjName → ℕ
-number_of (Frag ino frag) = ino.0
-number_of (Tree ino) = ino.0
+abbrev pub dir_number : ObjName → ℕ
+dir_number (Frag ino frag) = ino.0
+dir_number (Tree ino) = ino.0
 
 -- the object of a fragment tree, and that of a directory's whole fragment
 abbrev pub is_tree : ObjName → Bool

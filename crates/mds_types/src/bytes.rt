@@ -6,7 +6,7 @@ ghost use Rattle.std.specs.Cmp.Lexicographic.{pointwise, slice_cmp};
 ghost use Rattle.std.specs.Cmp.Rules.{comparing};
 ghost use Rattle.std.specs.Ordering.{nat_cmp, as_partial_cmp};
 ghost use Rattle.std.specs.Prelude.{◌≡◌, ◌==◌, ◌<◌, length, [], IfOk, OnErr, box_value};
-ghost use Rattle.mds_types.specs.Copies.{IsMade};
+ghost use Rattle.mds_types.specs.Copies.{IsMadeOrLacks};
 
 use crate::byte_order::compare;
 use crate::short_bytes::Short;
@@ -97,7 +97,7 @@ impl Bytes {
     /// A copy. More than 22 bytes take memory, and only then may it be wanting.
     #[inline(always)]
     pub fn try_clone(&self) -> Result<Bytes, AllocError>
-        ensures { IsMade self.now (22 < length self.now) result }
+        ensures { IsMadeOrLacks self.now (22 < length self.now) result }
     {
         match &self.form {
             Form::Short(short) => Ok(Bytes {
@@ -111,7 +111,7 @@ impl Bytes {
 // A copy of what stands in a box.
 #[inline(never)]
 fn copied(bytes: &Box<Vec<u8>>) -> Result<Bytes, AllocError>
-    ensures { IsMade (box_value bytes.now).items (22 < length (box_value bytes.now).items) result }
+    ensures { IsMadeOrLacks (box_value bytes.now).items (22 < length (box_value bytes.now).items) result }
 {
     Bytes::from_slice(*bytes.allocator(), bytes.as_slice())
 }

@@ -1,6 +1,6 @@
 //! Dentries: where an entry stands in the tree.
 ghost use Rattle.std.specs.Prelude.{◌<◌, length};
-ghost use Rattle.mds_types.specs.Copies.{IsMade};
+ghost use Rattle.mds_types.specs.Copies.{IsMadeOrLacks};
 ghost use Rattle.mds_types.specs.OrderLaws.{ino-exact, name-exact, dentry-exact};
 
 use crate::ids::Ino;
@@ -18,7 +18,7 @@ pub struct Dentry {
 impl Dentry {
     /// A copy. A name of more than 22 bytes takes memory, and only then may it be wanting.
     pub fn try_clone(&self) -> Result<Dentry, AllocError>
-        ensures { IsMade self.now (22 < length self.now.name) result }
+        ensures { IsMadeOrLacks self.now (22 < length self.now.name) result }
     {
         Ok(Dentry {
             dir: self.dir,

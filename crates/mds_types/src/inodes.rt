@@ -1,6 +1,6 @@
 //! Inodes, which a directory's entries hold embedded, as CephFS keeps them.
 ghost use Rattle.std.specs.Prelude.{◌≡◌, ◌↔◌, IsTrue};
-ghost use Rattle.mds_types.specs.Copies.{IsMade, HasLink};
+ghost use Rattle.mds_types.specs.Copies.{IsMadeOrLacks, HasLink};
 
 use crate::ids::{Ino, Rank};
 use crate::modes::Mode;
@@ -73,7 +73,7 @@ pub enum Alteration {
 impl Kind {
     /// A copy. Takes memory for a link's target alone.
     pub fn try_clone(&self) -> Result<Kind, AllocError>
-        ensures { IsMade self.now (HasLink self.now) result }
+        ensures { IsMadeOrLacks self.now (HasLink self.now) result }
     {
         match self {
             Kind::File => Ok(Kind::File),
@@ -93,7 +93,7 @@ impl Kind {
 impl Inode {
     /// A copy. Takes memory for a link's target alone.
     pub fn try_clone(&self) -> Result<Inode, AllocError>
-        ensures { IsMade self.now (HasLink self.now.kind) result }
+        ensures { IsMadeOrLacks self.now (HasLink self.now.kind) result }
     {
         Ok(Inode {
             ino: self.ino,

@@ -5,7 +5,7 @@ ghost use Rattle.std.specs.Prelude.{◌≡◌, ◌==◌, ◌&&◌, List, ℕ, []
 ghost use Rattle.std.proofs.Common.{rules};
 ghost use Rattle.std.proofs.lemmas.Slice.Eq.{bytes_eq-Decides, slice_eq-Decides};
 ghost use Rattle.sorted_map.proofs.Decided.{pair_decides};
-ghost use Rattle.mds_types.specs.Copies.{IsMade};
+ghost use Rattle.mds_types.specs.Copies.{IsMadeOrLacks};
 ghost use Rattle.mds_types.specs.InodeLaws.{inode_decides};
 ghost use Rattle.mds_types.specs.declared.inodes.Inode.{Inode};
 
@@ -53,7 +53,7 @@ impl Listing {
 
     /// A copy. Takes memory for the entries: an empty one takes none, and its copy never fails.
     pub fn try_clone(&self) -> Result<Listing, AllocError>
-        ensures { IsMade self.now (self.now ≡ [] → ⊥) result }
+        ensures { IsMadeOrLacks self.now (self.now ≡ [] → ⊥) result }
     {
         if self.items.is_empty() {
             return Ok(Listing {

@@ -1,7 +1,7 @@
 //! The name of a directory entry.
 ghost use Rattle.std.specs.Prelude.{◌≡◌, ◌<◌, length, IfErr, OnOk};
 ghost use Rattle.std.specs.List.{list_all};
-ghost use Rattle.mds_types.specs.Copies.{IsMade};
+ghost use Rattle.mds_types.specs.Copies.{IsMadeOrLacks};
 ghost use Rattle.mds_types.specs.Name.{IsName, is_dots, fits_name};
 ghost use Rattle.mds_types.specs.NameFault.{IsFaultOf, NameFromBytes, name_errno};
 
@@ -92,7 +92,7 @@ impl Name {
 
     /// A copy. More than 22 bytes take memory, and only then may it be wanting.
     pub fn try_clone(&self) -> Result<Name, AllocError>
-        ensures { IsMade self.now (22 < length self.now) result }
+        ensures { IsMadeOrLacks self.now (22 < length self.now) result }
     {
         Ok(Name {
             text: self.text.try_clone()?,

@@ -7,7 +7,7 @@ ghost use Rattle.std.specs.Cmp.Rules.{comparing};
 ghost use Rattle.std.specs.Ordering.{nat_cmp, as_partial_cmp};
 ghost use Rattle.std.specs.Prelude.{◌≡◌, ◌==◌, ◌≤◌, ◌<◌, true};
 ghost use Rattle.mds_types.specs.ObjectForm.{text_lent};
-ghost use Rattle.mds_types.specs.ObjectText.{is_tree, is_whole, number_of, object_text};
+ghost use Rattle.mds_types.specs.ObjectText.{is_tree, is_whole, dir_number, object_text};
 
 use crate::byte_order::compare;
 use crate::object_names::{ObjName, Spelt};
@@ -166,7 +166,7 @@ fn order(x: &ObjName, y: &ObjName) -> Ordering
 // Those of one directory: its whole fragment's stands before its tree's.
 #[tactic(auto, using(crate::proofs::ObjectOrder::same_trees, crate::proofs::ObjectOrder::whole_before_tree, crate::proofs::ObjectOrder::tree_behind_whole))]
 fn order_in_directory(x: &ObjName, y: &ObjName) -> Ordering
-    requires { number_of x.now ≡ number_of y.now }
+    requires { dir_number x.now ≡ dir_number y.now }
     ensures { result ≡ slice_cmp nat_cmp (object_text x.now) (object_text y.now) }
 {
     if is_tree(x) && is_tree(y) {
@@ -211,7 +211,7 @@ fn order_of_bytes(x: &ObjName, y: &ObjName) -> Ordering
 
 // The number of an object's directory.
 fn number(object: &ObjName) -> u64
-    ensures { result ≡ number_of object.now }
+    ensures { result ≡ dir_number object.now }
 {
     match object {
         ObjName::Frag(ino, _) => ino.0,

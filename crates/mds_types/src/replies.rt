@@ -1,5 +1,5 @@
 //! What a client is told.
-ghost use Rattle.mds_types.specs.Copies.{IsMade, OwnsMemory};
+ghost use Rattle.mds_types.specs.Copies.{IsMadeOrLacks, OwnsMemory};
 
 use crate::inodes::Inode;
 use crate::listings::Listing;
@@ -23,7 +23,7 @@ pub enum Reply {
 impl Reply {
     /// A copy. Takes memory for a listing that isn't empty and for links' targets alone.
     pub fn try_clone(&self) -> Result<Reply, AllocError>
-        ensures { IsMade self.now (OwnsMemory self.now) result }
+        ensures { IsMadeOrLacks self.now (OwnsMemory self.now) result }
     {
         match self {
             Reply::Entry(inode) => Ok(Reply::Entry(inode.try_clone()?)),

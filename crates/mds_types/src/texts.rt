@@ -6,7 +6,7 @@ ghost use Rattle.std.specs.Cmp.Lexicographic.{pointwise, slice_cmp};
 ghost use Rattle.std.specs.Cmp.Rules.{comparing};
 ghost use Rattle.std.specs.Ordering.{nat_cmp, as_partial_cmp};
 ghost use Rattle.std.specs.Prelude.{◌≡◌, ◌==◌, ◌<◌, length, IsUtf8};
-ghost use Rattle.mds_types.specs.Copies.{IsMade};
+ghost use Rattle.mds_types.specs.Copies.{IsMadeOrLacks};
 
 use crate::byte_order::compare;
 use crate::bytes::Bytes;
@@ -34,7 +34,7 @@ impl Model for Text {
 impl Text {
     /// A copy of this text. More than 22 bytes take memory, and only then may it be wanting.
     pub fn copy_of(alloc: Global, text: &str) -> Result<Text, AllocError>
-        ensures { IsMade text.now (22 < length text.now) result }
+        ensures { IsMadeOrLacks text.now (22 < length text.now) result }
     {
         Text::of_bytes(alloc, text.as_bytes())
     }
@@ -42,7 +42,7 @@ impl Text {
     // The text that these bytes are. More than 22 take memory.
     fn of_bytes(alloc: Global, bytes: &[u8]) -> Result<Text, AllocError>
         requires { IsUtf8 bytes.now }
-        ensures { IsMade bytes.now (22 < length bytes.now) result }
+        ensures { IsMadeOrLacks bytes.now (22 < length bytes.now) result }
     {
         Ok(Text {
             bytes: Bytes::from_slice(alloc, bytes)?,

@@ -42,12 +42,12 @@ unfoldable pub absorb : State → ℕ → ℕ → ℕ → State
 absorb s x y z = mix (record { a = add32 s.a x; b = add32 s.b y; c = add32 s.c z })
 
 -- the little-endian word at byte i of a block (Jenkins 1996; Ceph's ceph_str_hash_rjenkins)
-unfoldable pub word_at : List ℕ → ℕ → ℕ
-word_at block i = from_le_bytes w32 (take 4 (drop i block))
+unfoldable pub block_word : List ℕ → ℕ → ℕ
+block_word block i = from_le_bytes w32 (take 4 (drop i block))
 
 -- a whole block is taken in (Jenkins 1996; Ceph's ceph_str_hash_rjenkins)
 unfoldable pub absorb_block : State → List ℕ → State
-absorb_block s block = absorb s (word_at block 0) (word_at block 4) (word_at block 8)
+absorb_block s block = absorb s (block_word block 0) (block_word block 4) (block_word block 8)
 
 -- the rest of a name, with zeros up to 12 bytes (Jenkins 1996; Ceph's ceph_str_hash_rjenkins)
 unfoldable pub last_block : List ℕ → List ℕ
@@ -58,7 +58,7 @@ last_block rest = rest ++ replicate (12 - length rest) 0
 unfoldable pub absorb_last : State → List ℕ → ℕ → State
 absorb_last s rest total =
     let block = last_block rest in
-    absorb s (word_at block 0) (word_at block 4) (add32 (word_at block 8 * 256) total)
+    absorb s (block_word block 0) (block_word block 4) (add32 (block_word block 8 * 256) total)
 
 -- the first n blocks of 12 bytes of a name (Jenkins 1996; Ceph's ceph_str_hash_rjenkins)
 unfoldable pub blocks : ℕ → List ℕ → List (List ℕ)

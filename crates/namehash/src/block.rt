@@ -1,6 +1,6 @@
 // The blocks of 12 bytes that a name is read in.
 ghost use Rattle.std.specs.Prelude.{◌≡◌, ◌+◌, ◌<◌, ◌≤◌, length};
-ghost use Rattle.namehash.specs.Rjenkins.{last_block, word_at};
+ghost use Rattle.namehash.specs.Rjenkins.{last_block, block_word};
 
 pub const BLOCK_LEN: usize = 12;
 
@@ -21,7 +21,7 @@ pub fn last_block(rest: &[u8]) -> Block
 #[tactic(auto, unfolding(crate::specs::Rjenkins::word_at))]
 pub fn word_at(block: &Block, i: usize) -> u32
     requires { i + 4 ≤ BLOCK_LEN }
-    ensures { result ≡ word_at block.now i }
+    ensures { result ≡ block_word block.now i }
 {
     u32::from_le_bytes([block[i], block[i + 1], block[i + 2], block[i + 3]])
 }

@@ -1,11 +1,11 @@
 -- The fragments of a checked change are the operation's changed fragments, and each is named once.
-use Rattle.namespace_ops.proofs.Common.{AreApart, Bool, Carries, Change, Changes, Checked, Checks, Contains, Covers, Dentry, Dirfrag, Err, Fragment, IfOk, IfSome, Ino, Inode, IsChangeIn, IsChecked, IsCovered, IsLeafAt, IsMoveTo, IsRemovalAt, IsSpot, IsUnlinkAt, Leaf, List, Lists, Looks, Makes, Moves, NamesOnce, None, Ok, Op, Option, PutsAt, Refusal, Removes, Result, Sets, Shape, Some, Spot, Takes, LosesName, TakesBy, Tree, Unlinks, [], ap, arith, changed_fragments, cond, dentry_at, dentry_cmp, directory_at, directory_gone, entries_there, eq_by_cmp, errno_of_any_number, false, fragment_of, fragments_of, has_entries, in_directory, is_dir_kind, is_errno, is_idle, leaf_of, leaf_put, leaf_taken, leaves, leaves_at, leaves_gone, leaves_of, named_once, other_put, refl, replace_errno, reply_by, same_leaf, shape, stays, stays_in, step, subst, sym, touched, touched_in, true, unless_same, ℕ, ⊎_elim, ◌&&◌, ◌++◌, ◌||◌, ◌∙◌, ◌∷◌, ◌≡◌}
+use Rattle.namespace_ops.proofs.Common.{AreApart, Bool, Carries, Change, Changes, Checked, Checks, Contains, Covers, Dentry, Dirfrag, Err, Fragment, IfOk, IfSome, Ino, Inode, IsChangeIn, IsChecked, IsCovered, IsDentryLeaf, IsMoveTo, IsRemovalAt, IsSpot, IsUnlinkAt, Leaf, List, Lists, Looks, Makes, Moves, NamesOnce, None, Ok, Op, Option, PutsAt, Refusal, Removes, Result, Sets, Shape, Some, Spot, Takes, LosesName, TakesBy, Tree, Unlinks, [], ap, arith, changed_fragments, cond, dentry_at, dentry_cmp, directory_at, directory_gone, entries_there, eq_by_cmp, errno_of_any_number, false, fragment_of, fragments_of, has_entries, in_directory, is_dir_kind, is_errno, is_idle, leaf_of, leaf_put, leaf_taken, leaves, leaves_at, leaves_gone, leaves_of, named_once, other_put, refl, replace_errno, reply_by, same_leaf, shape, stays, stays_in, step, subst, sym, touched, touched_in, true, unless_same, ℕ, ⊎_elim, ◌&&◌, ◌++◌, ◌||◌, ◌∙◌, ◌∷◌, ◌≡◌}
 use Rattle.std.specs.FinMap as map
 use Rattle.namespace_ops.proofs.CheckedParts.{checks_on}
 use Rattle.namespace_ops.proofs.PickLaws.{picked}
 use Rattle.namespace_ops.proofs.Members.{first_or_later, in_dir, later, leaves_apart, none_in, one_leaf, two_leaves}
 
-leaf_is : (covers : Covers) (dentry : Dentry) (leaf : Fragment) → IsLeafAt covers dentry leaf → (dentry.dir, leaf) ≡ fragment_of covers dentry
+leaf_is : (covers : Covers) (dentry : Dentry) (leaf : Fragment) → IsDentryLeaf covers dentry leaf → (dentry.dir, leaf) ≡ fragment_of covers dentry
 leaf_is covers dentry leaf pick = ap (in_directory dentry.dir.0) (sym (picked _ _ _ pick))
 
 leaf_at : (covers : Covers) (dentry : Dentry) (spot : Spot) → dentry_at spot ≡ dentry → IsSpot covers spot → leaf_of spot.at ≡ fragment_of covers dentry

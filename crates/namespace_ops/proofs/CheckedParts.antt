@@ -1,5 +1,5 @@
 -- What the checks of each kind of operation find.
-use Rattle.namespace_ops.proofs.Common.{Alteration, Answers, AreLocated, Birth, Bool, Changes, Checked, Checks, Concerns, Covers, Dentry, Dir, Dirfrag, Done, Entry, Err, Errno, File, HasPinOf, HasSize, HasSpace, IfOk, IfSome, Ino, Inode, IsChangeOf, IsChecked, IsLeafAt, IsLocated, IsLocatedAt, IsMove, IsSpot, Kind, LiesAt, Located, Locates, LocatesAt, MayAdd, MayRemove, MaySet, None, Ok, Op, Option, Outcome, Places, Reads, Refusal, Rename, Result, Some, Spot, Tree, adds, alteration_errno, altered, altered_at, altered_kind, altered_number, altered_pin, altered_size, answers, ap, cond, dentry_at, dentry_cmp, destination_of, dir_removed, directory_at, directory_of, done_in, entries_in, entry_stands, eq_by_cmp, false, has_entries, hash_of, is_dir_kind, is_directory, leads_to, made, main_hash, may_go, moves, nat_le, new_inode, new_sized, refl, removal_errno, removes, renamed, replace_errno, room_errno, sets, shape, source_of, step, subst, sym, true, unless, unlinked, with_moved, ℕ, ◌&&◌, ◌<◌, ◌^◌, ◌∙◌, ◌≡◌}
+use Rattle.namespace_ops.proofs.Common.{Alteration, Answers, AreLocated, Birth, Bool, Changes, Checked, Checks, Concerns, Covers, Dentry, Dir, Dirfrag, Done, Entry, Err, Errno, File, HasPinOf, HasSize, HasSpace, IfOk, IfSome, Ino, Inode, IsChangeOf, IsChecked, IsDentryLeaf, IsLocated, IsLocatedAt, IsMove, IsSpot, Kind, LiesAt, Located, Locates, LocatesAt, MayAdd, MayRemove, MaySet, None, Ok, Op, Option, Outcome, Places, ReadsDirectory, Refusal, Rename, Result, Some, Spot, Tree, adds, alteration_errno, altered, altered_at, altered_kind, altered_number, altered_pin, altered_size, answers, ap, cond, dentry_at, dentry_cmp, destination_of, dir_removed, directory_at, directory_of, done_in, entries_in, entry_stands, eq_by_cmp, false, has_entries, hash_of, is_dir_kind, is_directory, leads_to, made, main_hash, may_go, moves, nat_le, new_inode, new_sized, refl, removal_errno, removes, renamed, replace_errno, room_errno, sets, shape, source_of, step, subst, sym, true, unless, unlinked, with_moved, ℕ, ◌&&◌, ◌<◌, ◌^◌, ◌∙◌, ◌≡◌}
 use Rattle.std.specs.FinMap as map
 use Rattle.mds_types.specs.declared.inodes.Kind.TheVariants.{Symlink as Link}
 
@@ -21,7 +21,7 @@ module _ (tree : Tree) (covers : Covers) (Holds : Dirfrag → Type 0) where
   pub spot_of : (dentry : Dentry) (at : Dirfrag) → LiesAt tree covers Holds dentry at → (spot : Spot) → spot ≡ record { at = at; name = dentry.name } → (dentry_at spot ≡ dentry) × IsSpot covers spot × Holds spot.at
   spot_of dentry at lies spot is =
       let same = spot_is dentry at lies.dir spot is in
-      (same, subst (λ (d : Dentry). IsLeafAt covers d spot.at.frag) (sym same) (subst (λ (s : Spot). IsLeafAt covers dentry s.at.frag) (sym is) lies.leaf), subst (λ (s : Spot). Holds s.at) (sym is) lies.held)
+      (same, subst (λ (d : Dentry). IsDentryLeaf covers d spot.at.frag) (sym same) (subst (λ (s : Spot). IsDentryLeaf covers dentry s.at.frag) (sym is) lies.leaf), subst (λ (s : Spot). Holds s.at) (sym is) lies.held)
 
 -- what a rename comes to once its first checks have passed
 module _ (limit : ℕ) (tree : Tree) (from to : Dentry) (source target : Option Inode) (inode : Inode) (stands : source ≡ Some inode) (apart : eq_by_cmp dentry_cmp from to ≡ false) (outside : leads_to tree inode to.dir.0 ≡ false) where

@@ -28,10 +28,10 @@ pub use Rattle.mds_types.specs.declared.replies.Reply.{Reply}
 pub use Rattle.mds_types.specs.declared.replies.Reply.TheVariants.{Done, Entry, Errno}
 pub use Rattle.namehash.specs.Rjenkins.{hash_of}
 pub use Rattle.namespace_ops.specs.ChangedFragments.{AreApart, IsCovered, NamesOnce, changed_fragments, fragment_of, leaves_at, touched, touched_in}
-pub use Rattle.namespace_ops.specs.Changes.{Carries, Concerns, IsChangeIn, IsChangeOf, IsLeafAt, IsMoveTo, IsNumbered, IsOffered, IsRemovalAt, IsSpot, IsUnlinkAt, MayChange, PutsAt, Reads, Takes, LosesName, TakesBy, adds, dentry_at, directory_at, directory_gone, fragments_of, in_directory, is_idle, leaf_put, leaf_taken, leaves, leaves_gone, moves, named_once, other_put, removes, reply_by, same_leaf, sets, stays, stays_in, unless_same}
+pub use Rattle.namespace_ops.specs.Changes.{Carries, Concerns, IsChangeIn, IsChangeOf, IsDentryLeaf, IsMoveTo, IsNumbered, IsOffered, IsRemovalAt, IsSpot, IsUnlinkAt, MayChange, PutsAt, ReadsDirectory, Takes, LosesName, TakesBy, adds, dentry_at, directory_at, directory_gone, fragments_of, in_directory, is_idle, leaf_put, leaf_taken, leaves, leaves_gone, moves, named_once, other_put, removes, reply_by, same_leaf, sets, stays, stays_in, unless_same}
 pub use Rattle.namespace_ops.specs.Checked.{Checks, IsChecked}
 pub use Rattle.namespace_ops.specs.Kept.{ChangesOnly, ReadsOnly, OthersShowTheSame}
-pub use Rattle.namespace_ops.specs.Picks.{is_in, pick_of}
+pub use Rattle.namespace_ops.specs.Picks.{holds_hash, pick_of}
 pub use Rattle.namespace_ops.specs.Places.{AreLocated, IsLocated, IsLocatedAt, LiesAt, Locates, LocatesAt, main_hash}
 pub use Rattle.namespace_ops.specs.declared.locating.Located.{Located}
 pub use Rattle.namespace_ops.specs.declared.locating.Places.{Places}

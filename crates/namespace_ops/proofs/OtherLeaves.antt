@@ -19,7 +19,7 @@ use Rattle.namespace_ops.specs.declared.plans.Change.{Change}
 use Rattle.namespace_ops.specs.declared.plans.Spot.{Spot}
 use Rattle.mds_types.specs.Leaf.{Leaf, leaf_of}
 use Rattle.namespace_ops.specs.Kept.{IsStanding, ShowsTheSame, OthersShowTheSame}
-use Rattle.namespace_ops.specs.Changes.{IsLeafAt, IsSpot, MayChange, changed, dentry_at, directory_at, fragments_of, in_directory, leaf_put, leaf_taken, leaves, leaves_gone, put, taken}
+use Rattle.namespace_ops.specs.Changes.{IsDentryLeaf, IsSpot, MayChange, changed, dentry_at, directory_at, fragments_of, in_directory, leaf_put, leaf_taken, leaves, leaves_gone, put, taken}
 use Rattle.namespace_ops.proofs.Members.{first, first_or_later, later}
 use Rattle.namespace_ops.proofs.Shapes.{Shape, shape_of}
 use Rattle.namespace_ops.proofs.Shapes.Shape.{add, move, remove, set}
@@ -38,7 +38,7 @@ first_is one leaf rest same = subst (λ l. Among (one ∷ rest) l) same (first o
 
 module _ (tree : Tree) (covers : Covers) (whole : IsWellFormed tree) (leaf : Leaf) (stood : IsStanding tree covers leaf) where
   -- a name in this leaf is not at a dentry whose leaf is another
-  apart : (dentry : Dentry) (other : Fragment) → IsLeafAt covers dentry other → ((dentry.dir, other) ≡ leaf → ⊥) → (name : List ℕ) → Contains leaf.1 (hash_of name) → dentry_of leaf.0.0 name ≡ dentry → ⊥
+  apart : (dentry : Dentry) (other : Fragment) → IsDentryLeaf covers dentry other → ((dentry.dir, other) ≡ leaf → ⊥) → (name : List ℕ) → Contains leaf.1 (hash_of name) → dentry_of leaf.0.0 name ≡ dentry → ⊥
   apart dentry other pick elsewhere name inside same =
       let is : leaf.1 ≡ other = pick.alone leaf.1 (subst (λ (p : Dentry). HasLeaf (leaves_of covers p.dir.0) leaf.1) same stood.among) (subst (λ (p : Dentry). Contains leaf.1 (hash_of p.name)) same inside) in
       elsewhere (λ i. (record { 0 = (sym same i).dir.0 }, sym is i))

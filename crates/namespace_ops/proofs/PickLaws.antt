@@ -1,8 +1,8 @@
 -- The first leaf that contains a hash is its pick.
-use Rattle.namespace_ops.proofs.Common.{Fragment, HasLeaf, IsPick, List, [], ap, arith, cond, false, first, first_or_later, inl, inr, is_apart, is_in, is_same, later, pick_of, same_or_apart, span, subst, sym, true, ℕ, ⊎_elim, ◌%◌, ◌/◌, ◌^◌, ◌∙◌, ◌∷◌, ◌≡◌, ◌⊎◌}
+use Rattle.namespace_ops.proofs.Common.{Fragment, HasLeaf, IsPick, List, [], ap, arith, cond, false, first, first_or_later, inl, inr, is_apart, holds_hash, is_same, later, pick_of, same_or_apart, span, subst, sym, true, ℕ, ⊎_elim, ◌%◌, ◌/◌, ◌^◌, ◌∙◌, ◌∷◌, ◌≡◌, ◌⊎◌}
 use Rattle.mds_types.specs.Frag.{Contains}
 
-is_in_or_not : (f : Fragment) (hash : ℕ) → ((is_in f hash ≡ true) × Contains f hash) ⊎ ((is_in f hash ≡ false) × (Contains f hash → ⊥))
+is_in_or_not : (f : Fragment) (hash : ℕ) → ((holds_hash f hash ≡ true) × Contains f hash) ⊎ ((holds_hash f hash ≡ false) × (Contains f hash → ⊥))
 is_in_or_not f hash =
     ⊎_elim (λ same. inl (is_same _ _ same, same)) (λ apart. inr (is_apart _ _ apart, apart))
     (same_or_apart ((hash % 2 ^ 24) / span f.bits) (f.value / span f.bits))

@@ -128,8 +128,8 @@ abbrev pub Concerns : Op → ℕ → Type 0
 Concerns op d = ConcernsIn (shape op) d
 
 -- an operation reads the directory d: a directory that it concerns
-abbrev pub Reads : Tree → Op → ℕ → Type 0
-Reads tree op d = Concerns op d × (is_directory tree d ≡ true)
+abbrev pub ReadsDirectory : Tree → Op → ℕ → Type 0
+ReadsDirectory tree op d = Concerns op d × (is_directory tree d ≡ true)
 
 -- the inode that an operation answers: one that comes, or has other attributes; of one that is taken or moves none
 abbrev pub reply_by : Option Spot → Option (Spot × Inode) → Reply
@@ -156,12 +156,12 @@ abbrev pub changed : Tree → Change → Tree
 changed tree change = put (taken tree change.takes) change.puts
 
 -- the leaf of a dentry: the one that its name's hash picks
-abbrev pub IsLeafAt : Covers → Dentry → Fragment → Type 0
-IsLeafAt covers dentry leaf = IsPick (leaves_of covers dentry.dir.0) (hash_of dentry.name) leaf
+abbrev pub IsDentryLeaf : Covers → Dentry → Fragment → Type 0
+IsDentryLeaf covers dentry leaf = IsPick (leaves_of covers dentry.dir.0) (hash_of dentry.name) leaf
 
 -- a spot is the one of its dentry: its fragment is the leaf that the name's hash picks
 abbrev pub IsSpot : Covers → Spot → Type 0
-IsSpot covers spot = IsLeafAt covers (dentry_at spot) spot.at.frag
+IsSpot covers spot = IsDentryLeaf covers (dentry_at spot) spot.at.frag
 
 -- the number of what stands at a dentry, if that is a directory
 abbrev pub directory_at : Option Inode → Option Ino

@@ -8,7 +8,7 @@ ghost use Rattle.mds_types.specs.Step.{alteration_errno, altered_at, with_attrib
 ghost use Rattle.mds_types.specs.Step.{altered as inode_altered, pin_errno as errno_of_pin, size_errno as errno_of_size};
 ghost use Rattle.namespace_ops.specs.declared.plans.Spot.{Spot as Place};
 ghost use Rattle.namespace_ops.specs.Kept.{ReadsOnly};
-ghost use Rattle.namespace_ops.specs.Changes.{IsChangeOf, Reads, dentry_at, sets as sets_to};
+ghost use Rattle.namespace_ops.specs.Changes.{IsChangeOf, ReadsDirectory, dentry_at, sets as sets_to};
 ghost use Rattle.namespace_ops.specs.Checked.{Checks};
 ghost use Rattle.namespace_ops.specs.Places.{LiesAt};
 ghost use Rattle.namespace_ops.specs.Reasons.{Refuses};
@@ -32,7 +32,7 @@ pub fn alter<F: Frags>(
     at: &Dirfrag,
     alteration: &Alteration,
 ) -> Result<Checked, Refusal>
-    requires reads { Reads (F.content frags.old) op.now dentry.now.dir.0 }
+    requires reads { ReadsDirectory (F.content frags.old) op.now dentry.now.dir.0 }
     requires at { LiesAt (F.content frags.old) (F.covers frags.old) (F.Holds frags.old) dentry.now at.now }
     requires sets { (spot : Place) (inode : Node) → dentry_at spot ≡ dentry.now
         → IsChangeOf op.now (sets_to spot inode) }

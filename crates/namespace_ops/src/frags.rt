@@ -16,7 +16,7 @@ ghost use Rattle.inode_table.specs.TreeChanges.{KeepLeaves};
 ghost use Rattle.namespace_ops.specs.declared.plans.Change.{Change as Alteration};
 ghost use Rattle.mds_types.specs.Leaf.{Leaf};
 ghost use Rattle.namespace_ops.specs.Kept.{ReadsOnly, ChangesOnly};
-ghost use Rattle.namespace_ops.specs.Changes.{IsChangeOf, IsNumbered, LieHeld, MayChange, Reads, changed, fragments_of};
+ghost use Rattle.namespace_ops.specs.Changes.{IsChangeOf, IsNumbered, LieHeld, MayChange, ReadsDirectory, changed, fragments_of};
 ghost use Rattle.namespace_ops.specs.Places.{LiesAt, Locates};
 ghost use Rattle.namespace_ops.specs.Reasons.{IsOfFragments};
 
@@ -84,7 +84,7 @@ pub trait Frags {
 
     /// The inode at a dentry, copied. `at` is where the dentry lies.
     fn look(&mut self, op: &Op, dentry: &Dentry, at: &Dirfrag) -> Result<Option<Inode>, Refusal>
-        requires reads { Reads (content self.old) op.now dentry.now.dir.0 }
+        requires reads { ReadsDirectory (content self.old) op.now dentry.now.dir.0 }
         requires at { LiesAt (content self.old) (covers self.old) (Holds self.old) dentry.now at.now }
         ensures found { IfOk result (λ found. found ≡ map.get (content self.old) dentry.now) }
         ensures kept { ReadsOnly (content self.old) (content self.new) (covers self.old) (covers self.new)
@@ -101,7 +101,7 @@ pub trait Frags {
         after: Option<&Name>,
         max: PageSize,
     ) -> Result<(Listing, bool), Refusal>
-        requires reads { Reads (content self.old) op.now dir.0 }
+        requires reads { ReadsDirectory (content self.old) op.now dir.0 }
         ensures listed { IfOk result
             (λ page. page.0 ≡ take max (names_after (content self.old) dir.0 (option_copied after.entry))) }
         ensures more { IfOk result

@@ -9,7 +9,7 @@ ghost use Rattle.mds_types.specs.Shape.{link_mode};
 ghost use Rattle.mds_types.specs.Step.{made, new_inode, new_size};
 ghost use Rattle.namespace_ops.specs.declared.plans.Spot.{Spot as Place};
 ghost use Rattle.namespace_ops.specs.Kept.{ReadsOnly};
-ghost use Rattle.namespace_ops.specs.Changes.{IsChangeOf, Reads, adds, dentry_at};
+ghost use Rattle.namespace_ops.specs.Changes.{IsChangeOf, ReadsDirectory, adds, dentry_at};
 ghost use Rattle.namespace_ops.specs.Checked.{Checks};
 ghost use Rattle.namespace_ops.specs.Places.{IsLocatedAt};
 ghost use Rattle.namespace_ops.specs.Reasons.{Refuses};
@@ -76,7 +76,7 @@ pub fn make<F: Frags>(
     at: &Located,
     new: New,
 ) -> Result<Checked, Refusal>
-    requires reads { Reads (F.content frags.old) op.now dentry.now.dir.0 }
+    requires reads { ReadsDirectory (F.content frags.old) op.now dentry.now.dir.0 }
     requires at { IsLocatedAt (F.content frags.old) (F.covers frags.old) (F.Holds frags.old) dentry.now at.now }
     requires makes { (spot : Place) (inode : Node) → dentry_at spot ≡ dentry.now → inode.kind ≡ new.kind
         → IsChangeOf op.now (adds spot inode) }

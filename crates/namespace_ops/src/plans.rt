@@ -1,6 +1,6 @@
 //! What an operation comes to, before it is done.
 ghost use Rattle.std.specs.Prelude.{◌≡◌, ◌<◌, true, false, cond, length, None, IfErr, IfOk, OnOk};
-ghost use Rattle.mds_types.specs.Copies.{IsMade, OwnsMemory};
+ghost use Rattle.mds_types.specs.Copies.{IsMadeOrLacks, OwnsMemory};
 ghost use Rattle.mds_types.specs.declared.refusals.Refusal.TheVariants.{NoInodes};
 ghost use Rattle.namespace_ops.specs.Changes.{dentry_at, reply_of};
 
@@ -17,7 +17,7 @@ pub struct Spot {
 impl Spot {
     /// The spot of a dentry that lies there. A name of more than 22 bytes takes memory, and only then may it be wanting.
     pub fn of(dentry: &Dentry, at: Dirfrag) -> Result<Spot, AllocError>
-        ensures { IsMade (record { at = at; name = dentry.now.name }) (22 < length dentry.now.name) result }
+        ensures { IsMadeOrLacks (record { at = at; name = dentry.now.name }) (22 < length dentry.now.name) result }
     {
         let name = dentry.name.try_clone()?;
         Ok(Spot { at, name })
@@ -53,7 +53,7 @@ pub struct Change {
 impl Change {
     /// What an operation answers that makes this change. Takes memory for a copy of a link's target alone.
     pub fn reply(&self) -> Result<Reply, AllocError>
-        ensures { IsMade (reply_of self.now) (OwnsMemory (reply_of self.now)) result }
+        ensures { IsMadeOrLacks (reply_of self.now) (OwnsMemory (reply_of self.now)) result }
     {
         match (&self.takes, &self.puts) {
             (None, Some((_, inode))) => Ok(Reply::Entry(inode.try_clone()?)),

@@ -8,7 +8,7 @@ ghost use Rattle.std.specs.FinMap as map;
 ghost use Rattle.mds_types.specs.Shape.{target_of};
 ghost use Rattle.mds_types.specs.Step.{looked, page, names_after};
 ghost use Rattle.namespace_ops.specs.Kept.{ReadsOnly};
-ghost use Rattle.namespace_ops.specs.Changes.{Reads, stays};
+ghost use Rattle.namespace_ops.specs.Changes.{ReadsDirectory, stays};
 ghost use Rattle.namespace_ops.specs.Checked.{Checks};
 ghost use Rattle.namespace_ops.specs.Places.{LiesAt};
 ghost use Rattle.namespace_ops.specs.Reasons.{Refuses};
@@ -26,7 +26,7 @@ pub fn lookup<F: Frags>(
     dentry: &Dentry,
     at: &Dirfrag,
 ) -> Result<Checked, Refusal>
-    requires reads { Reads (F.content frags.old) op.now dentry.now.dir.0 }
+    requires reads { ReadsDirectory (F.content frags.old) op.now dentry.now.dir.0 }
     requires at { LiesAt (F.content frags.old) (F.covers frags.old) (F.Holds frags.old) dentry.now at.now }
     requires idle { stays op.now ≡ true }
     ensures checked { (n : ℕ)
@@ -53,7 +53,7 @@ pub fn read_dir<F: Frags>(
     after: Option<&Name>,
     max: PageSize,
 ) -> Result<Checked, Refusal>
-    requires reads { Reads (F.content frags.old) op.now dir.0 }
+    requires reads { ReadsDirectory (F.content frags.old) op.now dir.0 }
     requires idle { stays op.now ≡ true }
     ensures checked { (n : ℕ)
         → IfOk result (Checks (F.content frags.old) (F.covers frags.old) (F.Holds frags.old) op.now n
@@ -75,7 +75,7 @@ pub fn read_link<F: Frags>(
     dentry: &Dentry,
     at: &Dirfrag,
 ) -> Result<Checked, Refusal>
-    requires reads { Reads (F.content frags.old) op.now dentry.now.dir.0 }
+    requires reads { ReadsDirectory (F.content frags.old) op.now dentry.now.dir.0 }
     requires at { LiesAt (F.content frags.old) (F.covers frags.old) (F.Holds frags.old) dentry.now at.now }
     requires idle { stays op.now ≡ true }
     ensures checked { (n : ℕ)

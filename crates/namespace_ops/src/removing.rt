@@ -8,7 +8,7 @@ ghost use Rattle.mds_types.specs.Step.{unlinked, dir_removed};
 ghost use Rattle.mds_types.specs.Step.{removal_errno as errno_of_removal};
 ghost use Rattle.namespace_ops.specs.declared.plans.Spot.{Spot as Place};
 ghost use Rattle.namespace_ops.specs.Kept.{ReadsOnly};
-ghost use Rattle.namespace_ops.specs.Changes.{IsChangeOf, Reads, dentry_at, removes as takes_away};
+ghost use Rattle.namespace_ops.specs.Changes.{IsChangeOf, ReadsDirectory, dentry_at, removes as takes_away};
 ghost use Rattle.namespace_ops.specs.Checked.{Checks};
 ghost use Rattle.namespace_ops.specs.Places.{LiesAt};
 ghost use Rattle.namespace_ops.specs.Reasons.{Refuses};
@@ -25,7 +25,7 @@ pub fn unlink<F: Frags>(
     dentry: &Dentry,
     at: &Dirfrag,
 ) -> Result<Checked, Refusal>
-    requires reads { Reads (F.content frags.old) op.now dentry.now.dir.0 }
+    requires reads { ReadsDirectory (F.content frags.old) op.now dentry.now.dir.0 }
     requires at { LiesAt (F.content frags.old) (F.covers frags.old) (F.Holds frags.old) dentry.now at.now }
     requires removes { (spot : Place) → dentry_at spot ≡ dentry.now → IsChangeOf op.now (takes_away spot None) }
     ensures checked { (n : ℕ)
@@ -59,7 +59,7 @@ pub fn remove_dir<F: Frags>(
     dentry: &Dentry,
     at: &Dirfrag,
 ) -> Result<Checked, Refusal>
-    requires reads { Reads (F.content frags.old) op.now dentry.now.dir.0 }
+    requires reads { ReadsDirectory (F.content frags.old) op.now dentry.now.dir.0 }
     requires at { LiesAt (F.content frags.old) (F.covers frags.old) (F.Holds frags.old) dentry.now at.now }
     requires removes { (spot : Place) (gone : Option Number) → dentry_at spot ≡ dentry.now
         → IsChangeOf op.now (takes_away spot gone) }

@@ -12,7 +12,7 @@ ghost use Rattle.mds_types.specs.Step.{renamed};
 ghost use Rattle.mds_types.specs.Step.{leads_to as leads_below, replace_errno as errno_of_replacing};
 ghost use Rattle.namespace_ops.specs.declared.plans.Spot.{Spot as Place};
 ghost use Rattle.namespace_ops.specs.Kept.{ReadsOnly};
-ghost use Rattle.namespace_ops.specs.Changes.{IsChangeOf, Reads, dentry_at, directory_at, moves as moves_to, stays};
+ghost use Rattle.namespace_ops.specs.Changes.{IsChangeOf, ReadsDirectory, dentry_at, directory_at, moves as moves_to, stays};
 ghost use Rattle.namespace_ops.specs.Checked.{Checks};
 ghost use Rattle.namespace_ops.specs.Places.{IsLocatedAt};
 ghost use Rattle.namespace_ops.specs.Reasons.{Refuses};
@@ -37,8 +37,8 @@ pub fn rename<F: Frags>(
 ) -> Result<Checked, Refusal>
     requires from { IsLocatedAt (F.content frags.old) (F.covers frags.old) (F.Holds frags.old) from.now at.now.0 }
     requires to { IsLocatedAt (F.content frags.old) (F.covers frags.old) (F.Holds frags.old) to.now at.now.1 }
-    requires reads { Reads (F.content frags.old) op.now from.now.dir.0 }
-    requires leads { Reads (F.content frags.old) op.now to.now.dir.0 }
+    requires reads { ReadsDirectory (F.content frags.old) op.now from.now.dir.0 }
+    requires leads { ReadsDirectory (F.content frags.old) op.now to.now.dir.0 }
     requires idle { stays op.now ≡ eq_by_cmp dentry_cmp from.now to.now }
     requires moves { (source target : Place) (inode : Node) (gone : Option Number) → dentry_at source ≡ from.now
         → dentry_at target ≡ to.now → IsChangeOf op.now (moves_to source target inode gone) }

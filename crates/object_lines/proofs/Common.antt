@@ -7,16 +7,16 @@ pub use Rattle.dirfrag_codec.proofs.TreeLaws.{four_each}
 pub use Rattle.dirfrag_codec.proofs.ValueLaws.{name_decides, one_key, read_as, reading_answered, reads_entry, reads_key, spelled_as}
 pub use Rattle.dirfrag_codec.specs.EntryRecord.{SpellsEntry}
 pub use Rattle.dirfrag_codec.specs.FragHeader.{SpellsHeader}
-pub use Rattle.dirfrag_codec.specs.FragmentObject.{HasPair, IsPairOf, Names, SpellsKey, SpellsNames, SpellsTreeObject, dirs_in, files_in, header_for, names_in, with_entry}
+pub use Rattle.dirfrag_codec.specs.FragmentObject.{HasPair, IsPairOf, Names, SpellsKey, SpellsNames, SpellsTreeObject, dirs_in, files_in, header_for, names_of_list, with_pair}
 pub use Rattle.dirfrag_codec.specs.Grammar.{Decodes}
 pub use Rattle.dirfrag_codec.specs.Reading.{◌>>=◌}
 pub use Rattle.dirfrag_codec.specs.TreeObject.{SpellsTree, StatesLeaves, leaf_bytes}
-pub use Rattle.dirfrag_codec.specs.Values.{entry_of, is_name, name_of}
+pub use Rattle.dirfrag_codec.specs.Values.{inode_of_record, is_name, name_of_key}
 pub use Rattle.dirfrag_codec.specs.declared.headers.FragHeader.{FragHeader}
 pub use Rattle.mds_types.specs.Frag.{Fragment}
 pub use Rattle.mds_types.specs.Tree.{is_dir_kind}
 pub use Rattle.mds_types.specs.declared.inodes.Inode.{Inode}
-pub use Rattle.object_lines.specs.Entries.{counted, counted_after, is_dir_in, is_dir_under, with_one}
+pub use Rattle.object_lines.specs.Entries.{counted_header, counted_after, is_dir_in, is_dir_under, with_one}
 pub use Rattle.object_lines.specs.ObjectLines.{HasOneLine, MayTakeMemory, ShowsFragment, SpellsNoFragment, SpellsNoTree}
 pub use Rattle.objstore.specs.EntryKeys.{NamesKey, entry_key}
 pub use Rattle.objstore.specs.Omap.{Omap, PairMap, PairPage, key_cmp, page_of}

@@ -1,7 +1,7 @@
 -- The counts of pairs are those of the names that they show.
-use Rattle.object_lines.proofs.Common.{Bool, Equal, FragHeader, Greater, Inode, Less, List, Names, None, Option, Ordering, Some, SpellsKey, T, [], ap, arith, by_order, cond, counted_after, dirs_in, entries-from_sorted, entries-insert, entry_key, entry_of, false, files_in, filter, find, get-entries, get-from_sorted, is_dir_kind, is_dir_under, is_eq, is_name, is_sorted, key_cmp, left_of, len-empty, len-entries, length, name_of, names_in, nat_list_cmp_total, nil_from_length, not, not_found, put, reads_key, refl, right_of, same_Some, shows_at_each, spelled_as, suc, sym, true, with_entry, with_one, ℕ, ◌+◌, ◌>>=◌, ◌∙◌, ◌∷◌, ◌≡◌}
+use Rattle.object_lines.proofs.Common.{Bool, Equal, FragHeader, Greater, Inode, Less, List, Names, None, Option, Ordering, Some, SpellsKey, T, [], ap, arith, by_order, cond, counted_after, dirs_in, entries-from_sorted, entries-insert, entry_key, inode_of_record, false, files_in, filter, find, get-entries, get-from_sorted, is_dir_kind, is_dir_under, is_eq, is_name, is_sorted, key_cmp, left_of, len-empty, len-entries, length, name_of_key, names_of_list, nat_list_cmp_total, nil_from_length, not, not_found, put, reads_key, refl, right_of, same_Some, shows_at_each, spelled_as, suc, sym, true, with_pair, with_one, ℕ, ◌+◌, ◌>>=◌, ◌∙◌, ◌∷◌, ◌≡◌}
 use Rattle.std.specs.FinMap as map
-use Rattle.dirfrag_codec.specs.FragmentObject.{names_of}
+use Rattle.dirfrag_codec.specs.FragmentObject.{names_of_pairs}
 
 -- ---- one name more, that wasn't there
 
@@ -35,15 +35,15 @@ module _ (p : Inode → Bool) where
 
 -- ---- a name whose key isn't among pairs isn't shown by them
 
-nothing : (b : Bool) → cond b (None >>= entry_of) None ≡ None
+nothing : (b : Bool) → cond b (None >>= inode_of_record) None ≡ None
 nothing true = refl
 nothing false = refl
 
-not_shown : (es : List (List ℕ × List ℕ)) (name : List ℕ) → T (is_sorted key_cmp es) → find key_cmp (entry_key name) es ≡ None → map.get (names_in es) name ≡ None
-unfolding names_of
+not_shown : (es : List (List ℕ × List ℕ)) (name : List ℕ) → T (is_sorted key_cmp es) → find key_cmp (entry_key name) es ≡ None → map.get (names_of_list es) name ≡ None
+unfolding names_of_pairs
 not_shown es name sorted none =
-    ap (λ (l : List (List ℕ × List ℕ)). map.get (names_in l) name) (sym (entries-from_sorted key_cmp es sorted)) ∙ shows_at_each (map.from_sorted {R = key_cmp} es) name
-    ∙ ap (λ (r : Option (List ℕ)). cond (is_name name) (r >>= entry_of) None) (get-from_sorted key_cmp es (entry_key name) sorted ∙ none) ∙ nothing (is_name name)
+    ap (λ (l : List (List ℕ × List ℕ)). map.get (names_of_list l) name) (sym (entries-from_sorted key_cmp es sorted)) ∙ shows_at_each (map.from_sorted {R = key_cmp} es) name
+    ∙ ap (λ (r : Option (List ℕ)). cond (is_name name) (r >>= inode_of_record) None) (get-from_sorted key_cmp es (entry_key name) sorted ∙ none) ∙ nothing (is_name name)
 
 -- ---- pairs counted one by one
 
@@ -62,7 +62,7 @@ one_step header false files dirs more_files more_dirs f d =
     let b : header.dirs + dirs ≡ header.dirs + more_dirs = omega (arith, d) in
     λ i. record { version = header.version; files = a i; dirs = b i }
 
-no_names : (header : FragHeader) → header ≡ with_counts header (files_in (names_in [])) (dirs_in (names_in []))
+no_names : (header : FragHeader) → header ≡ with_counts header (files_in (names_of_list [])) (dirs_in (names_of_list []))
 no_names header =
     let none : map.entries (map.empty {X = Inode} {R = key_cmp}) ≡ [] = nil_from_length (map.entries (map.empty {X = Inode} {R = key_cmp})) (sym (len-entries (map.empty {X = Inode} {R = key_cmp})) ∙ len-empty key_cmp Inode) in
     let files : tally (λ (i : Inode). not (is_dir_kind i.kind)) (map.entries (map.empty {X = Inode} {R = key_cmp})) ≡ 0 = ap (tally (λ (i : Inode). not (is_dir_kind i.kind))) none in
@@ -73,19 +73,19 @@ no_names header =
 
 -- the header that counts pairs has the entry counts of the names that they show
 pub names_counted : (es : List (List ℕ × List ℕ)) (header all : FragHeader) → T (is_sorted key_cmp es) → counted_after header es ≡ Some all
-    → all ≡ with_counts header (files_in (names_in es)) (dirs_in (names_in es))
+    → all ≡ with_counts header (files_in (names_of_list es)) (dirs_in (names_of_list es))
 names_counted [] header all sorted is = sym (same_Some header all is) ∙ no_names header
-names_counted (e ∷ es) header all sorted is = go (λ next so. names_counted es next all (right_of _ _ sorted) so) (name_of e.0) (entry_of e.1) refl refl is
+names_counted (e ∷ es) header all sorted is = go (λ next so. names_counted es next all (right_of _ _ sorted) so) (name_of_key e.0) (inode_of_record e.1) refl refl is
   where
-    go : ((next : FragHeader) → counted_after next es ≡ Some all → all ≡ with_counts next (files_in (names_in es)) (dirs_in (names_in es)))
-        → (n : Option (List ℕ)) (o : Option Inode) → name_of e.0 ≡ n → entry_of e.1 ≡ o → (is_dir_under n o >>= λ is_dir. counted_after (with_one header is_dir) es) ≡ Some all
-        → all ≡ with_counts header (files_in (with_entry (names_in es) n o)) (dirs_in (with_entry (names_in es) n o))
+    go : ((next : FragHeader) → counted_after next es ≡ Some all → all ≡ with_counts next (files_in (names_of_list es)) (dirs_in (names_of_list es)))
+        → (n : Option (List ℕ)) (o : Option Inode) → name_of_key e.0 ≡ n → inode_of_record e.1 ≡ o → (is_dir_under n o >>= λ is_dir. counted_after (with_one header is_dir) es) ≡ Some all
+        → all ≡ with_counts header (files_in (with_pair (names_of_list es) n o)) (dirs_in (with_pair (names_of_list es) n o))
     go rest (Some name) (Some inode) k r so =
-        let keyed : e.0 ≡ entry_key name = (spelled_as SpellsKey name_of reads_key e.0 name k).1 in
-        let none : map.get (names_in es) name ≡ None = not_shown es name (right_of _ _ sorted) (not_found e.0 (entry_key name) es (sym keyed) (left_of _ _ sorted)) in
-        let files = insert_tally (λ (i : Inode). not (is_dir_kind i.kind)) (names_in es) name inode none in
-        let dirs = insert_tally (λ (i : Inode). is_dir_kind i.kind) (names_in es) name inode none in
+        let keyed : e.0 ≡ entry_key name = (spelled_as SpellsKey name_of_key reads_key e.0 name k).1 in
+        let none : map.get (names_of_list es) name ≡ None = not_shown es name (right_of _ _ sorted) (not_found e.0 (entry_key name) es (sym keyed) (left_of _ _ sorted)) in
+        let files = insert_tally (λ (i : Inode). not (is_dir_kind i.kind)) (names_of_list es) name inode none in
+        let dirs = insert_tally (λ (i : Inode). is_dir_kind i.kind) (names_of_list es) name inode none in
         rest (with_one header (is_dir_kind inode.kind)) so
-        ∙ one_step header (is_dir_kind inode.kind) (files_in (names_in es)) (dirs_in (names_in es)) (files_in (map.insert (names_in es) name inode)) (dirs_in (map.insert (names_in es) name inode)) files dirs
+        ∙ one_step header (is_dir_kind inode.kind) (files_in (names_of_list es)) (dirs_in (names_of_list es)) (files_in (map.insert (names_of_list es) name inode)) (dirs_in (map.insert (names_of_list es) name inode)) files dirs
     go rest (Some name) None k r so = absurd cc
     go rest None o k r so = absurd cc

@@ -1,8 +1,8 @@
 -- What an object is, by its header and its pairs counted one after the other.
-use Rattle.object_lines.proofs.Common.{Absent, Bool, Damaged, Err, Frag, FragHeader, Fragment, HasOneLine, HasPair, Inode, IsPairOf, List, MayTakeMemory, None, Ok, Omap, OnErr, Option, PairMap, PairPage, Result, ShowsFragment, Some, SpellsEntry, SpellsHeader, SpellsKey, SpellsNames, SpellsNoFragment, SpellsNoTree, SpellsTree, SpellsTreeObject, StatesLeaves, T, Tree, [], all_kept, ap, arith, cond, counted, counted_after, dirs_in, empty_of_len, entries_sorted, entry_key, entry_of, eq_by_cmp, false, files_in, find, flat_map, four_each, get-entries, has_one_fragment, has_one_tree_object, header_for, inl, inr, is_dir_in, is_dir_kind, is_dir_under, is_name, is_sorted, key_apart, key_cmp, key_same, leaf_bytes, left_of, len-empty, len-entries, length, ltb, map, name_decides, name_of, names_in, names_shown, nat_tests, not_found, one_entry, one_header, one_key, page_of, read_as, reads_entry, reads_key, refl, right_of, same_or_apart, shows_at_each, spelled_as, subst, sym, take, take_all, true, with_one, ℕ, ◌+◌, ◌>>=◌, ◌∙◌, ◌∷◌, ◌≡◌, ◌≤◌, ◌⊎◌}
+use Rattle.object_lines.proofs.Common.{Absent, Bool, Damaged, Err, Frag, FragHeader, Fragment, HasOneLine, HasPair, Inode, IsPairOf, List, MayTakeMemory, None, Ok, Omap, OnErr, Option, PairMap, PairPage, Result, ShowsFragment, Some, SpellsEntry, SpellsHeader, SpellsKey, SpellsNames, SpellsNoFragment, SpellsNoTree, SpellsTree, SpellsTreeObject, StatesLeaves, T, Tree, [], all_kept, ap, arith, cond, counted_header, counted_after, dirs_in, empty_of_len, entries_sorted, entry_key, inode_of_record, eq_by_cmp, false, files_in, find, flat_map, four_each, get-entries, has_one_fragment, has_one_tree_object, header_for, inl, inr, is_dir_in, is_dir_kind, is_dir_under, is_name, is_sorted, key_apart, key_cmp, key_same, leaf_bytes, left_of, len-empty, len-entries, length, ltb, map, name_decides, name_of_key, names_of_list, names_shown, nat_tests, not_found, one_entry, one_header, one_key, page_of, read_as, reads_entry, reads_key, refl, right_of, same_or_apart, shows_at_each, spelled_as, subst, sym, take, take_all, true, with_one, ℕ, ◌+◌, ◌>>=◌, ◌∙◌, ◌∷◌, ◌≡◌, ◌≤◌, ◌⊎◌}
 use Rattle.std.specs.FinMap as finmap
 use Rattle.objstore.specs.Omap.{pairs_after}
-use Rattle.dirfrag_codec.specs.FragmentObject.{names_of}
+use Rattle.dirfrag_codec.specs.FragmentObject.{names_of_pairs}
 use Rattle.object_lines.proofs.CountLaws.{names_counted}
 
 -- ---- pairs that are entries
@@ -11,16 +11,16 @@ use Rattle.object_lines.proofs.CountLaws.{names_counted}
 record IsEntry (key bytes : List ℕ) : Type 0 where
   name : List ℕ
   inode : Inode
-  key_is : name_of key ≡ Some name
-  record_is : entry_of bytes ≡ Some inode
+  key_is : name_of_key key ≡ Some name
+  record_is : inode_of_record bytes ≡ Some inode
 
 abbrev HasKind : List ℕ → List ℕ → Type 0
 HasKind key bytes = (is_dir : Bool) × (is_dir_in (key, bytes) ≡ Some is_dir)
 
 is_entry : (key bytes : List ℕ) → HasKind key bytes → IsEntry key bytes
-is_entry key bytes h = go (name_of key) (entry_of bytes) refl refl h.1
+is_entry key bytes h = go (name_of_key key) (inode_of_record bytes) refl refl h.1
   where
-    go : (n : Option (List ℕ)) (o : Option Inode) → name_of key ≡ n → entry_of bytes ≡ o → is_dir_under n o ≡ Some h.0 → IsEntry key bytes
+    go : (n : Option (List ℕ)) (o : Option Inode) → name_of_key key ≡ n → inode_of_record bytes ≡ o → is_dir_under n o ≡ Some h.0 → IsEntry key bytes
     go (Some name) (Some inode) k r so = record { name = name; inode = inode; key_is = k; record_is = r }
     go (Some name) None k r so = absurd cc
     go None o k r so = absurd cc
@@ -56,30 +56,30 @@ all_counted (e ∷ es) header sorted each =
 -- ---- the names of an object whose pairs are entries
 
 module _ (pairs : PairMap) (each : (key bytes : List ℕ) → finmap.get pairs key ≡ Some bytes → HasKind key bytes) where
-  reads_all : (key bytes : List ℕ) → finmap.get pairs key ≡ Some bytes → IsPairOf (names_of pairs) key bytes
+  reads_all : (key bytes : List ℕ) → finmap.get pairs key ≡ Some bytes → IsPairOf (names_of_pairs pairs) key bytes
   reads_all key bytes is =
       let p = is_entry key bytes (each key bytes is) in
-      let s = spelled_as SpellsKey name_of reads_key key p.name p.key_is in
+      let s = spelled_as SpellsKey name_of_key reads_key key p.name p.key_is in
       record {
         name = p.name;
         inode = p.inode;
         named = s.0;
         keyed = s.1;
-        spelled = spelled_as SpellsEntry entry_of reads_entry bytes p.inode p.record_is;
-        held = shows_at_each pairs p.name ∙ ap (λ (b : Bool). cond b (finmap.get pairs (entry_key p.name) >>= entry_of) None) ((name_decides p.name).1 s.0)
-            ∙ ap (λ (k : List ℕ). finmap.get pairs k >>= entry_of) (sym s.1) ∙ ap (λ (r : Option (List ℕ)). r >>= entry_of) is ∙ p.record_is;
+        spelled = spelled_as SpellsEntry inode_of_record reads_entry bytes p.inode p.record_is;
+        held = shows_at_each pairs p.name ∙ ap (λ (b : Bool). cond b (finmap.get pairs (entry_key p.name) >>= inode_of_record) None) ((name_decides p.name).1 s.0)
+            ∙ ap (λ (k : List ℕ). finmap.get pairs k >>= inode_of_record) (sym s.1) ∙ ap (λ (r : Option (List ℕ)). r >>= inode_of_record) is ∙ p.record_is;
       }
 
-  holds_all : (name : List ℕ) (inode : Inode) → finmap.get (names_of pairs) name ≡ Some inode → HasPair pairs name inode
+  holds_all : (name : List ℕ) (inode : Inode) → finmap.get (names_of_pairs pairs) name ≡ Some inode → HasPair pairs name inode
   holds_all name inode is = go (is_name name) (finmap.get pairs (entry_key name)) refl refl (sym (shows_at_each pairs name) ∙ is)
     where
-      go : (b : Bool) (r : Option (List ℕ)) → is_name name ≡ b → finmap.get pairs (entry_key name) ≡ r → cond b (r >>= entry_of) None ≡ Some inode → HasPair pairs name inode
+      go : (b : Bool) (r : Option (List ℕ)) → is_name name ≡ b → finmap.get pairs (entry_key name) ≡ r → cond b (r >>= inode_of_record) None ≡ Some inode → HasPair pairs name inode
       go true (Some bytes) told found so =
-          record { named = (name_decides name).0 told; bytes = bytes; stands = found; spelled = spelled_as SpellsEntry entry_of reads_entry bytes inode so }
+          record { named = (name_decides name).0 told; bytes = bytes; stands = found; spelled = spelled_as SpellsEntry inode_of_record reads_entry bytes inode so }
       go true None told found so = absurd cc
       go false r told found so = absurd cc
 
-  names_spelled : SpellsNames pairs (names_of pairs)
+  names_spelled : SpellsNames pairs (names_of_pairs pairs)
   names_spelled = record { read = reads_all; held = holds_all }
 
 -- ---- the fragment that an object is
@@ -88,44 +88,44 @@ abbrev no_entries : ℕ → FragHeader
 no_entries version = record { version = version; files = 0; dirs = 0 }
 
 -- counted pairs give the header of the names that they show
-header_counted : (pairs : PairMap) (version : ℕ) (all : FragHeader) → counted version (finmap.entries pairs) ≡ Some all → all ≡ header_for version (names_of pairs)
-unfolding names_of
+header_counted : (pairs : PairMap) (version : ℕ) (all : FragHeader) → counted_header version (finmap.entries pairs) ≡ Some all → all ≡ header_for version (names_of_pairs pairs)
+unfolding names_of_pairs
 header_counted pairs version all so =
-    let a : 0 + files_in (names_in (finmap.entries pairs)) ≡ files_in (names_in (finmap.entries pairs)) = omega arith in
-    let b : 0 + dirs_in (names_in (finmap.entries pairs)) ≡ dirs_in (names_in (finmap.entries pairs)) = omega arith in
+    let a : 0 + files_in (names_of_list (finmap.entries pairs)) ≡ files_in (names_of_list (finmap.entries pairs)) = omega arith in
+    let b : 0 + dirs_in (names_of_list (finmap.entries pairs)) ≡ dirs_in (names_of_list (finmap.entries pairs)) = omega arith in
     names_counted (finmap.entries pairs) (no_entries version) all (entries_sorted pairs) so ∙ (λ i. record { version = version; files = a i; dirs = b i })
 
 module _ (object : Omap) (header : FragHeader) (spelled : SpellsHeader object.header header) (pairs : List (List ℕ × List ℕ)) (all : pairs ≡ finmap.entries object.pairs) where
-  pub shows_fragment : (keys : List (List ℕ)) → counted header.version pairs ≡ Some header → keys ≡ map (λ (pair : List ℕ × List ℕ). pair.0) pairs
+  pub shows_fragment : (keys : List (List ℕ)) → counted_header header.version pairs ≡ Some header → keys ≡ map (λ (pair : List ℕ × List ℕ). pair.0) pairs
       → ShowsFragment object header.version header.files header.dirs keys
   shows_fragment keys so is =
-      let told : counted header.version (finmap.entries object.pairs) ≡ Some header = ap (counted header.version) (sym all) ∙ so in
-      let same : header ≡ header_for header.version (names_of object.pairs) = header_counted object.pairs header.version header told in
+      let told : counted_header header.version (finmap.entries object.pairs) ≡ Some header = ap (counted_header header.version) (sym all) ∙ so in
+      let same : header ≡ header_for header.version (names_of_pairs object.pairs) = header_counted object.pairs header.version header told in
       let each : (key bytes : List ℕ) → finmap.get object.pairs key ≡ Some bytes → HasKind key bytes =
       λ key bytes found. found_counted (finmap.entries object.pairs) (no_entries header.version) header key bytes told (sym (get-entries object.pairs key) ∙ found) in
       record {
-        names = names_of object.pairs;
+        names = names_of_pairs object.pairs;
         spelled = record { header = subst (SpellsHeader object.header) same spelled; pairs = names_spelled object.pairs each };
         files_are = ap (λ (h : FragHeader). h.files) same;
         dirs_are = ap (λ (h : FragHeader). h.dirs) same;
         keys_are = is ∙ ap (map (λ (pair : List ℕ × List ℕ). pair.0)) all;
       }
 
-  pub shows_none : (counted header.version pairs ≡ Some header → ⊥) → SpellsNoFragment object
+  pub shows_none : (counted_header header.version pairs ≡ Some header → ⊥) → SpellsNoFragment object
   shows_none other version names w =
       let each : (key bytes : List ℕ) → find key_cmp key (finmap.entries object.pairs) ≡ Some bytes → HasKind key bytes =
       λ key bytes found. has_kind key bytes (w.pairs.read key bytes (get-entries object.pairs key ∙ found)) in
       let told = all_counted (finmap.entries object.pairs) (no_entries header.version) (entries_sorted object.pairs) each in
       let headers : header ≡ header_for version names = one_header object.header header (header_for version names) spelled w.header in
-      let shown : names ≡ names_of object.pairs = names_shown object.pairs names w.pairs in
+      let shown : names ≡ names_of_pairs object.pairs = names_shown object.pairs names w.pairs in
       let same : told.0 ≡ header =
-      header_counted object.pairs header.version told.0 told.1 ∙ ap (λ (h : FragHeader). header_for h.version (names_of object.pairs)) headers ∙ ap (header_for version) (sym shown) ∙ sym headers in
-      other (ap (counted header.version) all ∙ told.1 ∙ ap (λ (h : FragHeader). Some h) same)
+      header_counted object.pairs header.version told.0 told.1 ∙ ap (λ (h : FragHeader). header_for h.version (names_of_pairs object.pairs)) headers ∙ ap (header_for version) (sym shown) ∙ sym headers in
+      other (ap (counted_header header.version) all ∙ told.1 ∙ ap (λ (h : FragHeader). Some h) same)
     where
       has_kind : (key bytes : List ℕ) → IsPairOf names key bytes → HasKind key bytes
       has_kind key bytes p =
-          let n : name_of key ≡ Some p.name = read_as SpellsKey name_of one_key reads_key key p.name (p.named, p.keyed) in
-          let r : entry_of bytes ≡ Some p.inode = read_as SpellsEntry entry_of one_entry reads_entry bytes p.inode p.spelled in
+          let n : name_of_key key ≡ Some p.name = read_as SpellsKey name_of_key one_key reads_key key p.name (p.named, p.keyed) in
+          let r : inode_of_record bytes ≡ Some p.inode = read_as SpellsEntry inode_of_record one_entry reads_entry bytes p.inode p.spelled in
           (is_dir_kind p.inode.kind, λ i. is_dir_under (n i) (r i))
 
 pub no_header : (object : Omap) (bytes : List ℕ) → bytes ≡ object.header → ((header : FragHeader) → SpellsHeader bytes header → ⊥) → SpellsNoFragment object

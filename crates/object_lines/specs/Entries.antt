@@ -4,7 +4,7 @@ use Rattle.mds_types.specs.Tree.{is_dir_kind}
 use Rattle.mds_types.specs.declared.inodes.Inode.{Inode}
 use Rattle.dirfrag_codec.specs.declared.headers.FragHeader.{FragHeader}
 use Rattle.dirfrag_codec.specs.Reading.{◌>>=◌}
-use Rattle.dirfrag_codec.specs.Values.{entry_of, name_of}
+use Rattle.dirfrag_codec.specs.Values.{inode_of_record, name_of_key}
 
 -- whether what stands under a name is a directory
 abbrev pub is_dir_under : Option (List ℕ) → Option Inode → Option Bool
@@ -14,7 +14,7 @@ is_dir_under None inode = None
 
 -- whether the entry of a pair is a directory; none, where its key is no name's or its value is no record
 abbrev pub is_dir_in : List ℕ × List ℕ → Option Bool
-is_dir_in pair = is_dir_under (name_of pair.0) (entry_of pair.1)
+is_dir_in pair = is_dir_under (name_of_key pair.0) (inode_of_record pair.1)
 
 -- a header that counts one entry more
 abbrev pub with_one : FragHeader → Bool → FragHeader
@@ -27,5 +27,5 @@ counted_after header [] = Some header
 counted_after header (pair ∷ pairs) = is_dir_in pair >>= λ is_dir. counted_after (with_one header is_dir) pairs
 
 -- the header that these pairs have at a commit version; none, where one of them is no entry's
-abbrev pub counted : ℕ → List (List ℕ × List ℕ) → Option FragHeader
-counted version pairs = counted_after (record { version = version; files = 0; dirs = 0 }) pairs
+abbrev pub counted_header : ℕ → List (List ℕ × List ℕ) → Option FragHeader
+counted_header version pairs = counted_after (record { version = version; files = 0; dirs = 0 }) pairs

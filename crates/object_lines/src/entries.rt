@@ -1,7 +1,7 @@
 //! The pairs of an object, read as entries of a directory.
 ghost use Rattle.std.specs.Prelude.{◌≡◌, IfOk};
-ghost use Rattle.dirfrag_codec.specs.Values.{name_of};
-ghost use Rattle.object_lines.specs.Entries.{counted, is_dir_in};
+ghost use Rattle.dirfrag_codec.specs.Values.{name_of_key};
+ghost use Rattle.object_lines.specs.Entries.{counted_header, is_dir_in};
 
 use dirfrag_codec::{FragHeader, decode_entry};
 use mds_types::{Bytes, Name};
@@ -14,7 +14,7 @@ pub(crate) fn counted(
     version: u64,
     pairs: &[(Bytes, Bytes)],
 ) -> Result<Option<FragHeader>, AllocError>
-    ensures { IfOk result (λ header. header ≡ counted version pairs.now) }
+    ensures { IfOk result (λ header. header ≡ counted_header version pairs.now) }
 {
     let mut files = 0;
     let mut dirs = 0;
@@ -48,7 +48,7 @@ fn is_dir(alloc: Global, key: &[u8], bytes: &[u8]) -> Result<Option<bool>, Alloc
 
 // The name whose key this is.
 fn named(alloc: Global, key: &[u8]) -> Result<Option<Name>, AllocError>
-    ensures { IfOk result (λ name. name ≡ name_of key.now) }
+    ensures { IfOk result (λ name. name ≡ name_of_key key.now) }
 {
     name_of(alloc, key)
 }

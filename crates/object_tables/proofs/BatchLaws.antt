@@ -15,7 +15,7 @@ use Rattle.objstore.specs.Objects.{Objects, written}
 use Rattle.objstore.specs.Writes.{applied, nothing}
 use Rattle.objstore.proofs.WriteLaws.{applied-parts}
 use Rattle.object_tables.specs.Entries.{entry}
-use Rattle.object_tables.specs.Reading.{AddsPair, HoldsBatch, IsBatch, IsReady, Precedes, sets_pairs, with_unset}
+use Rattle.object_tables.specs.Reading.{AddsPair, HoldsBatch, IsBatch, IsReadUpTo, Precedes, sets_pairs, with_unset}
 use Rattle.object_tables.specs.Spelled.{pair_key}
 use Rattle.object_tables.proofs.RowLaws.{get_laid}
 use Rattle.object_tables.proofs.SpelledLaws.{same_name}
@@ -89,7 +89,7 @@ op_written objects name op object there sets = ap (written objects name) sets �
 -- ---- ready for a key
 
 pub ready_on : (objects : Objects) (name : List ℕ) (op : WriteOp) (last : Option (List ℕ)) (key : List ℕ) → HoldsBatch objects name op last → Precedes last key
-    → IsReady objects name op key (with_unset objects name op last)
+    → IsReadUpTo objects name op key (with_unset objects name op last)
 ready_on objects name op None key holds before = absurd before
 ready_on objects name op (Some last) key holds before = record {
   object = holds.object;
@@ -101,13 +101,13 @@ ready_on objects name op (Some last) key holds before = record {
 }
 
 pub ready_set : (objects new : Objects) (name : List ℕ) (op now : WriteOp) (last : Option (List ℕ)) (key : List ℕ) → HoldsBatch objects name op last → Precedes last key
-    → new ≡ written objects name op → now ≡ nothing → IsReady new name now key (with_unset objects name op last)
+    → new ≡ written objects name op → now ≡ nothing → IsReadUpTo new name now key (with_unset objects name op last)
 ready_set objects new name op now None key holds before set none = absurd before
 ready_set objects new name op now (Some last) key holds before set none =
     let object = with_set holds.object op.set in
     let there : map.get new name ≡ Some object = ap (λ (o : Objects). map.get o name) (set ∙ op_written objects name op holds.object holds.there holds.sets) ∙ get_put objects name object in
     let pairs : overlaid object.pairs map.empty ≡ object.pairs = overlaid_none object.pairs in
-    subst (λ n. IsReady new name n key (written objects name op)) (sym none) (record {
+    subst (λ n. IsReadUpTo new name n key (written objects name op)) (sym none) (record {
       object = object;
       there = there;
       sets = refl;
@@ -117,10 +117,10 @@ ready_set objects new name op now (Some last) key holds before set none =
     })
 
 pub ready_bare : (objects before : Objects) (name : List ℕ) (op : WriteOp) (object : Omap) (key : List ℕ) → map.get objects name ≡ Some object → object.pairs ≡ map.empty
-    → op ≡ nothing → objects ≡ before → IsReady objects name op key before
+    → op ≡ nothing → objects ≡ before → IsReadUpTo objects name op key before
 ready_bare objects before name op object key there bare none was =
     let pairs : overlaid object.pairs map.empty ≡ map.empty = overlaid_none object.pairs ∙ bare in
-    subst (λ n. IsReady objects name n key before) (sym none) (record {
+    subst (λ n. IsReadUpTo objects name n key before) (sym none) (record {
       object = object;
       there = there;
       sets = refl;
@@ -137,7 +137,7 @@ with_pair op key value = record op { set = map.insert op.set key value }
 pair_sets : (op : WriteOp) (key value : List ℕ) → op ≡ sets_pairs op.set → with_pair op key value ≡ sets_pairs (map.insert op.set key value)
 pair_sets op key value sets = ap (λ (o : WriteOp). record o { set = map.insert op.set key value }) sets
 
-pub taken_batch : (objects before : Objects) (name : List ℕ) (op : WriteOp) (key value : List ℕ) → IsReady objects name op key before
+pub taken_batch : (objects before : Objects) (name : List ℕ) (op : WriteOp) (key value : List ℕ) → IsReadUpTo objects name op key before
     → IsBatch objects name (with_pair op key value) key
 taken_batch objects before name op key value ready = record {
   object = ready.object;
@@ -150,7 +150,7 @@ taken_batch objects before name op key value ready = record {
       ∙ ready.past k less));
 }
 
-pub taken_pair : (objects before : Objects) (name : List ℕ) (op : WriteOp) (key value : List ℕ) → IsReady objects name op key before
+pub taken_pair : (objects before : Objects) (name : List ℕ) (op : WriteOp) (key value : List ℕ) → IsReadUpTo objects name op key before
     → AddsPair before (written objects name (with_pair op key value)) (entry (pair_key name key) value)
 taken_pair objects before name op key value ready =
     let object = with_set ready.object op.set in

@@ -14,7 +14,7 @@ use Rattle.sqlite_value.proofs.OrderLemmas.{value_cmp_total, value_cmp-Text, val
 use Rattle.sqlite_value.proofs.KeyLemmas.{first_key-plain, then_tied, entry_cmp_total}
 use Rattle.sqlite_trees.specs.Tree.{IsIndex, from_key, insert_entry, remove_entry}
 use Rattle.sqlite_trees.proofs.TreeLemmas.{AtMost, IsSortedTree, prefix_cmp_follows, sorted_index}
-use Rattle.object_tables.specs.Entries.{IsIn, IsKeyColumn, IsKey, texts_of, entry, IsEntryRow, IsKeyedTable, HasNoOther, Says, SetsEntry, FindsEntry}
+use Rattle.object_tables.specs.Entries.{IsElement, IsKeyColumn, IsKey, texts_of, entry, IsEntryRow, IsKeyedTable, HasNoOther, Says, SetsEntry, FindsEntry}
 
 abbrev None_bytes : Option (List ℕ)
 None_bytes = None
@@ -111,11 +111,11 @@ column_value (v ∷ key) value = column_value key value
 
 -- ---- members
 
-pub in_filter : (p : Row → Bool) (x : Row) (rows : List Row) → IsIn x (filter p rows) ↔ (IsIn x rows × (p x ≡ true))
+pub in_filter : (p : Row → Bool) (x : Row) (rows : List Row) → IsElement x (filter p rows) ↔ (IsElement x rows × (p x ≡ true))
 in_filter p x [] = (λ h. absurd h, λ h. h.0)
 in_filter p x (y ∷ rows) = go (p y) refl (in_filter p x rows)
   where
-    go : (b : Bool) → p y ≡ b → (IsIn x (filter p rows) ↔ (IsIn x rows × (p x ≡ true))) → IsIn x (filter p (y ∷ rows)) ↔ (IsIn x (y ∷ rows) × (p x ≡ true))
+    go : (b : Bool) → p y ≡ b → (IsElement x (filter p rows) ↔ (IsElement x rows × (p x ≡ true))) → IsElement x (filter p (y ∷ rows)) ↔ (IsElement x (y ∷ rows) × (p x ≡ true))
     go true e both = rw e (
       (λ h. elim h [ inl same ↦ (inl same, ap p (sym same) ∙ e) | inr rest ↦ (inr (both.0 rest).0, (both.0 rest).1) ]),
       (λ h. elim h.0 [ inl same ↦ inl same | inr rest ↦ inr (both.1 (rest, h.1)) ]),
@@ -126,12 +126,12 @@ in_filter p x (y ∷ rows) = go (p y) refl (in_filter p x rows)
     )
 
 -- where no other row ties with the new one, the new one comes to those that are there
-pub in_insert : (new x : Row) (rows : List Row) → ((r : Row) → IsIn r rows → entry_cmp plain r new ≡ Equal → r ≡ new)
-    → IsIn x (insert_entry plain new rows) ↔ ((new ≡ x) ⊎ IsIn x rows)
+pub in_insert : (new x : Row) (rows : List Row) → ((r : Row) → IsElement r rows → entry_cmp plain r new ≡ Equal → r ≡ new)
+    → IsElement x (insert_entry plain new rows) ↔ ((new ≡ x) ⊎ IsElement x rows)
 in_insert new x [] same = (λ h. h, λ h. h)
 in_insert new x (y ∷ rows) same = go (entry_cmp plain y new) refl (in_insert new x rows (λ r h. same r (inr h)))
   where
-    go : (o : Ordering) → entry_cmp plain y new ≡ o → (IsIn x (insert_entry plain new rows) ↔ ((new ≡ x) ⊎ IsIn x rows)) → IsIn x (insert_entry plain new (y ∷ rows)) ↔ ((new ≡ x) ⊎ IsIn x (y ∷ rows))
+    go : (o : Ordering) → entry_cmp plain y new ≡ o → (IsElement x (insert_entry plain new rows) ↔ ((new ≡ x) ⊎ IsElement x rows)) → IsElement x (insert_entry plain new (y ∷ rows)) ↔ ((new ≡ x) ⊎ IsElement x (y ∷ rows))
     go Less e both = rw e (
       (λ h. elim h [ inl is ↦ inr (inl is) | inr rest ↦ elim (both.0 rest) [ inl is ↦ inl is | inr there ↦ inr (inr there) ] ]),
       (λ h. elim h [ inl is ↦ inr (both.1 (inl is)) | inr there ↦ elim there [ inl is ↦ inl is | inr rest ↦ inr (both.1 (inr rest)) ] ]),
@@ -144,11 +144,11 @@ in_insert new x (y ∷ rows) same = go (entry_cmp plain y new) refl (in_insert n
 
 -- ---- a look
 
-pub in_from_key : (key x : Row) (rows : List Row) → IsIn x (from_key plain key rows) → IsIn x rows
+pub in_from_key : (key x : Row) (rows : List Row) → IsElement x (from_key plain key rows) → IsElement x rows
 in_from_key key x [] h = h
 in_from_key key x (y ∷ rows) h = go (is_lt (prefix_cmp plain y key)) refl (in_from_key key x rows) h
   where
-    go : (b : Bool) → is_lt (prefix_cmp plain y key) ≡ b → (IsIn x (from_key plain key rows) → IsIn x rows) → IsIn x (from_key plain key (y ∷ rows)) → IsIn x (y ∷ rows)
+    go : (b : Bool) → is_lt (prefix_cmp plain y key) ≡ b → (IsElement x (from_key plain key rows) → IsElement x rows) → IsElement x (from_key plain key (y ∷ rows)) → IsElement x (y ∷ rows)
     go true e more = rw e (λ h. inr (more h))
     go false e more = rw e (λ h. h)
 
@@ -173,17 +173,17 @@ greater Greater a b = refl
 not_gt : (o : Ordering) → is_gt o ≡ true → o ≡ Equal → ⊥
 not_gt o above is = true≢false (sym above ∙ ap is_gt is)
 
-at_most_in : (e r : Row) (rows : List Row) → AllByRecursion (AtMost plain e) rows → IsIn r rows → AtMost plain e r
+at_most_in : (e r : Row) (rows : List Row) → AllByRecursion (AtMost plain e) rows → IsElement r rows → AtMost plain e r
 at_most_in e r [] all h = absurd h
 at_most_in e r (y ∷ rows) all (inl is) = subst (AtMost plain e) is all.0
 at_most_in e r (y ∷ rows) all (inr rest) = at_most_in e r rows all.1 rest
 
 pub none_of_key : (key : Row) (rows : List Row) → IsSortedTree plain rows → FirstIsNot (from_key plain key rows) key
-    → (r : Row) → IsIn r rows → prefix_cmp plain r key ≡ Equal → ⊥
+    → (r : Row) → IsElement r rows → prefix_cmp plain r key ≡ Equal → ⊥
 none_of_key key [] up first r h e = h
 none_of_key key (y ∷ rows) up first r h e = go (λ f there. none_of_key key rows up.1 f r there e) (is_lt (prefix_cmp plain y key)) refl first
   where
-    go : (FirstIsNot (from_key plain key rows) key → IsIn r rows → ⊥) → (b : Bool) → is_lt (prefix_cmp plain y key) ≡ b → FirstIsNot (from_key plain key (y ∷ rows)) key → ⊥
+    go : (FirstIsNot (from_key plain key rows) key → IsElement r rows → ⊥) → (b : Bool) → is_lt (prefix_cmp plain y key) ≡ b → FirstIsNot (from_key plain key (y ∷ rows)) key → ⊥
     go later true t = rw t (λ f. elim h [ inl is ↦ not_eq _ t (ap (λ x. prefix_cmp plain x key) is ∙ e) | inr there ↦ later f there ])
     go later false t = rw t (λ f.
         let above : is_gt (prefix_cmp plain y key) ≡ true = greater _ t f in
@@ -195,7 +195,7 @@ none_of_key key (y ∷ rows) up first r h e = go (λ f there. none_of_key key ro
 -- ---- what a call leaves of a table
 
 -- a key's row, where a table has a row that begins with the key
-pub row_of_key : (rows : List Row) (key row : Row) → IsKeyedTable (texts_of key) rows → IsKey key → IsIn row rows → prefix_cmp plain row key ≡ Equal
+pub row_of_key : (rows : List Row) (key row : Row) → IsKeyedTable (texts_of key) rows → IsKey key → IsElement row rows → prefix_cmp plain row key ≡ Equal
     → (v : List ℕ) × (row ≡ entry key v)
 row_of_key rows key row table is_key there begins =
     let it = table.entries row there in
@@ -203,20 +203,20 @@ row_of_key rows key row table is_key there begins =
     (it.value, it.is ∙ ap (λ k. entry k it.value) same)
 
 -- the key has the value already
-pub set_already : (rows : List Row) (key row : Row) (value : List ℕ) → IsKeyedTable (texts_of key) rows → IsKey key → IsIn row rows
+pub set_already : (rows : List Row) (key row : Row) (value : List ℕ) → IsKeyedTable (texts_of key) rows → IsKey key → IsElement row rows
     → prefix_cmp plain row key ≡ Equal → column row (length key) ≡ Blob value → SetsEntry rows rows key (Some value)
 set_already rows key row value table is_key there begins at =
     let found = row_of_key rows key row table is_key there begins in
     let same : found.0 ≡ value = let e : Blob found.0 ≡ Blob value = sym (column_value key found.0) ∙ (ap (λ r. column r (length key)) (sym found.1) ∙ at) in cc in
-    let here : IsIn (entry key value) rows = subst (λ r. IsIn r rows) (found.1 ∙ ap (entry key) same) there in
+    let here : IsElement (entry key value) rows = subst (λ r. IsElement r rows) (found.1 ∙ ap (entry key) same) there in
     record {
       table = table;
-      here = λ v. ((λ h. ap Some (table.once key value v here h)), (λ e. let is : value ≡ v = cc in subst (λ w. IsIn (entry key w) rows) is here));
+      here = λ v. ((λ h. ap Some (table.once key value v here h)), (λ e. let is : value ≡ v = cc in subst (λ w. IsElement (entry key w) rows) is here));
       others = λ k v apart. ((λ h. h), (λ h. h));
     }
 
 -- no row is of the key
-pub set_absent : (rows : List Row) (key : Row) → IsKeyedTable (texts_of key) rows → ((r : Row) → IsIn r rows → prefix_cmp plain r key ≡ Equal → ⊥)
+pub set_absent : (rows : List Row) (key : Row) → IsKeyedTable (texts_of key) rows → ((r : Row) → IsElement r rows → prefix_cmp plain r key ≡ Equal → ⊥)
     → SetsEntry rows rows key None
 set_absent rows key table none = record {
   table = table;
@@ -225,14 +225,14 @@ set_absent rows key table none = record {
 }
 
 -- the one row of a key is removed
-pub set_removed : (rows : List Row) (key row : Row) → IsKeyedTable (texts_of key) rows → IsKey key → IsIn row rows → prefix_cmp plain row key ≡ Equal
+pub set_removed : (rows : List Row) (key row : Row) → IsKeyedTable (texts_of key) rows → IsKey key → IsElement row rows → prefix_cmp plain row key ≡ Equal
     → SetsEntry rows (remove_entry plain row rows) key None
 set_removed rows key row table is_key there begins =
     let found = row_of_key rows key row table is_key there begins in
     let kept = λ (x : Row). in_filter (λ e. not (is_eq (entry_cmp plain e row))) x rows in
-    let gone : (v : List ℕ) → IsIn (entry key v) (remove_entry plain row rows) → ⊥ = λ v h.
+    let gone : (v : List ℕ) → IsElement (entry key v) (remove_entry plain row rows) → ⊥ = λ v h.
     let was = (kept (entry key v)).0 h in
-    let only : v ≡ found.0 = table.once key v found.0 was.0 (subst (λ r. IsIn r rows) found.1 there) in
+    let only : v ≡ found.0 = table.once key v found.0 was.0 (subst (λ r. IsElement r rows) found.1 there) in
     let tied : entry_cmp plain (entry key v) row ≡ Equal = subst (λ w. entry_cmp plain (entry key w) row ≡ Equal) (sym only) (subst (λ r. entry_cmp plain r row ≡ Equal) found.1 (tied_itself (entry_cmp_total plain) row)) in
     true≢false (sym was.1 ∙ ap (λ o. not (is_eq o)) tied) in
     record {
@@ -261,7 +261,7 @@ pub set_added : (rows : List Row) (key : Row) (value : List ℕ) → IsKey key �
 set_added rows key value is_key table only =
     let new = entry key value in
     let is_new : IsEntryRow (texts_of key) new = record { key = key; value = value; is_key = is_key; columns = refl; is = refl } in
-    let ties : (r : Row) → IsIn r rows → entry_cmp plain r new ≡ Equal → r ≡ new = λ r h e. tied_entries (texts_of key) r new (table.entries r h) is_new e in
+    let ties : (r : Row) → IsElement r rows → entry_cmp plain r new ≡ Equal → r ≡ new = λ r h e. tied_entries (texts_of key) r new (table.entries r h) is_new e in
     let come = λ (x : Row). in_insert new x rows ties in
     record {
       table = record {
@@ -278,10 +278,10 @@ set_added rows key value is_key table only =
       );
     }
   where
-    one : (k : Row) (a b : List ℕ) → (entry key value ≡ entry k a) ⊎ IsIn (entry k a) rows → (entry key value ≡ entry k b) ⊎ IsIn (entry k b) rows → a ≡ b
+    one : (k : Row) (a b : List ℕ) → (entry key value ≡ entry k a) ⊎ IsElement (entry k a) rows → (entry key value ≡ entry k b) ⊎ IsElement (entry k b) rows → a ≡ b
     one k a b (inl x) (inl y) = sym (entry_parts key k value a x).1 ∙ (entry_parts key k value b y).1
-    one k a b (inl x) (inr y) = sym (entry_parts key k value a x).1 ∙ sym (only b (subst (λ l. IsIn (entry l b) rows) (sym (entry_parts key k value a x).0) y))
-    one k a b (inr x) (inl y) = only a (subst (λ l. IsIn (entry l a) rows) (sym (entry_parts key k value b y).0) x) ∙ (entry_parts key k value b y).1
+    one k a b (inl x) (inr y) = sym (entry_parts key k value a x).1 ∙ sym (only b (subst (λ l. IsElement (entry l b) rows) (sym (entry_parts key k value a x).0) y))
+    one k a b (inr x) (inl y) = only a (subst (λ l. IsElement (entry l a) rows) (sym (entry_parts key k value b y).0) x) ∙ (entry_parts key k value b y).1
     one k a b (inr x) (inr y) = table.once k a b x y
 
 -- a key is given none, and then a value
@@ -301,7 +301,7 @@ none_other rows key value says v h = let e : None_bytes ≡ Some v = (says v).0 
 
 pub looked : (rows : List Row) (key row : Row) (left : List Row) → IsIndex plain rows → from_key plain key rows ≡ row ∷ left
     → (b : Bool) → is_eq (prefix_cmp plain row key) ≡ b → FindsEntry rows key row b
-looked rows key row left up first true e = (in_from_key key row rows (subst (IsIn row) (sym first) (inl refl)), is_equal (prefix_cmp plain row key) e)
+looked rows key row left up first true e = (in_from_key key row rows (subst (IsElement row) (sym first) (inl refl)), is_equal (prefix_cmp plain row key) e)
 looked rows key row left up first false e = none_of_key key rows (sorted_index plain rows up) (subst (λ x. FirstIsNot x key) (sym first) e)
 
 pub looked_past : (rows : List Row) (key row : Row) → IsIndex plain rows → from_key plain key rows ≡ [] → FindsEntry rows key row false

@@ -10,7 +10,7 @@ use Rattle.objstore.specs.Objects.{Objects, header_at}
 use Rattle.sqlite_value.specs.Order.{Row}
 use Rattle.sqlite_value.specs.Keys.{plain}
 use Rattle.sqlite_trees.specs.Tree.{from_key}
-use Rattle.object_tables.specs.Entries.{IsKey, IsEntryRow, IsIn, IsKeyedTable, Says, entry, one_text, texts_of, two_texts}
+use Rattle.object_tables.specs.Entries.{IsKey, IsEntryRow, IsElement, IsKeyedTable, Says, entry, one_text, texts_of, two_texts}
 use Rattle.object_tables.specs.Reading.{AddsObject, AddsPair, SpellHeaders, SpellPairs}
 use Rattle.object_tables.specs.Spelled.{SpellsObjects, object_key, pair_key, value_at}
 use Rattle.object_tables.proofs.EntryLaws.{entry_parts}
@@ -21,7 +21,7 @@ pub from_no_key : (rows : List Row) → from_key plain [] rows ≡ rows
 from_no_key [] = refl
 from_no_key (r ∷ rows) = refl
 
-pub in_pushed : (x row : Row) (rows : List Row) → IsIn x (rows ++ row ∷ []) ↔ (IsIn x rows ⊎ (row ≡ x))
+pub in_pushed : (x row : Row) (rows : List Row) → IsElement x (rows ++ row ∷ []) ↔ (IsElement x rows ⊎ (row ≡ x))
 in_pushed x row [] = ((λ h. elim h [ inl is ↦ inr is | inr away ↦ absurd away ]), (λ h. elim h [ inl away ↦ absurd away | inr is ↦ inl is ]))
 in_pushed x row (y ∷ rows) =
     let both = in_pushed x row rows in (
@@ -43,13 +43,13 @@ table_pushed texts rows key value table is_key columns none = record {
     new : IsEntryRow texts (entry key value)
     new = record { key = key; value = value; is_key = is_key; columns = columns; is = refl }
 
-    never : (v : List ℕ) → IsIn (entry key v) rows → ⊥
+    never : (v : List ℕ) → IsElement (entry key v) rows → ⊥
     never v h = none_some None v refl ((none v).0 h)
 
-    one : (k : Row) (a b : List ℕ) → IsIn (entry k a) rows ⊎ (entry key value ≡ entry k a) → IsIn (entry k b) rows ⊎ (entry key value ≡ entry k b) → a ≡ b
+    one : (k : Row) (a b : List ℕ) → IsElement (entry k a) rows ⊎ (entry key value ≡ entry k a) → IsElement (entry k b) rows ⊎ (entry key value ≡ entry k b) → a ≡ b
     one k a b (inl x) (inl y) = table.once k a b x y
-    one k a b (inl x) (inr y) = absurd (never a (subst (λ l. IsIn (entry l a) rows) (sym (entry_parts key k value b y).0) x))
-    one k a b (inr x) (inl y) = absurd (never b (subst (λ l. IsIn (entry l b) rows) (sym (entry_parts key k value a x).0) y))
+    one k a b (inl x) (inr y) = absurd (never a (subst (λ l. IsElement (entry l a) rows) (sym (entry_parts key k value b y).0) x))
+    one k a b (inr x) (inl y) = absurd (never b (subst (λ l. IsElement (entry l b) rows) (sym (entry_parts key k value a x).0) y))
     one k a b (inr x) (inr y) = sym (entry_parts key k value a x).1 ∙ (entry_parts key k value b y).1
 
 -- what a key says then: the value, if it is that key, and else what it said

@@ -16,7 +16,7 @@ use Rattle.object_tables.specs.Entries.{IsKeyedTable, LeavesOthers, PutsRow, Say
 use Rattle.object_tables.specs.Noted.{Noted, has_key, has_name}
 use Rattle.object_tables.specs.Spelled.{HaveOwners, SpellsBut, SpellsObjects, object_key, pair_key, value_at}
 use Rattle.object_tables.specs.Sessions.{AddsRow, Brings, HasSessionRows, HaveOneSessionMap, SpellsRows, session_key}
-use Rattle.keeping.specs.Rows.{SessionRows, edited, with_value}
+use Rattle.keeping.specs.Rows.{SessionRows, rows_after_edits, with_row_value}
 use Rattle.object_tables.proofs.ReadLaws.{none_some, says_pushed, table_pushed}
 use Rattle.object_tables.proofs.SpelledLaws.{apart_names, said_same, said_still, same_name}
 
@@ -53,20 +53,20 @@ row_added table old new row s a =
 
 -- what a key has after an edit
 get_edited : (rows : SessionRows) (value : Option (List ℕ)) (key k : List ℕ) (b : Bool) → eq_by_cmp key_cmp k key ≡ b
-    → finmap.get (with_value value key rows) k ≡ cond b value (finmap.get rows k)
+    → finmap.get (with_row_value value key rows) k ≡ cond b value (finmap.get rows k)
 get_edited rows None key k true e = rw (get-remove nat_list_cmp_total, e) refl
 get_edited rows None key k false e = rw (get-remove nat_list_cmp_total, e) refl
 get_edited rows (Some v) key k true e = rw (get-insert nat_list_cmp_total, e) refl
 get_edited rows (Some v) key k false e = rw (get-insert nat_list_cmp_total, e) refl
 
 pub row_put : (old new : View) (rows : SessionRows) (key : List ℕ) (value : Option (List ℕ)) → PutsRow old new 2 (session_key key) value
-    → HasSessionRows old.trees rows → HasSessionRows new.trees (with_value value key rows)
+    → HasSessionRows old.trees rows → HasSessionRows new.trees (with_row_value value key rows)
 row_put old new rows key value put s = record {
   keyed = put.sets.table;
   values = λ k. at k (eq_by_cmp key_cmp k key) refl;
 }
   where
-    at : (k : List ℕ) (b : Bool) → eq_by_cmp key_cmp k key ≡ b → Says (new.trees 2) (session_key k) (finmap.get (with_value value key rows) k)
+    at : (k : List ℕ) (b : Bool) → eq_by_cmp key_cmp k key ≡ b → Says (new.trees 2) (session_key k) (finmap.get (with_row_value value key rows) k)
     at k true e =
         subst (Says (new.trees 2) (session_key k)) (sym (get_edited rows value key k true e))
         (subst (λ x. Says (new.trees 2) (session_key x) value) (sym (same_name k key e)) put.sets.here)
@@ -78,7 +78,7 @@ row_put old new rows key value put s = record {
 pub record IsEdited (trees : Trees) (all left : List RowEdit) (rows : SessionRows) : Type 0 where
   pub now : SessionRows
   pub has : HasSessionRows trees now
-  pub same : edited left now ≡ edited all rows
+  pub same : rows_after_edits left now ≡ rows_after_edits all rows
 
 pub one_more : (old new : View) (all : List RowEdit) (at : ℕ) (edit : RowEdit) (rows : SessionRows) → at < length all → edit ≡ get_or all at edit
     → (IsKeyedTable one_blob (old.trees 2) → PutsRow old new 2 (session_key edit.key) edit.value)
@@ -86,15 +86,15 @@ pub one_more : (old new : View) (all : List RowEdit) (at : ℕ) (edit : RowEdit)
 one_more old new all at edit rows less is put it =
     let behind : drop at all ≡ edit ∷ drop (at + 1) all = drop_more all at edit less ∙ ap (λ e. e ∷ drop (at + 1) all) (sym is) in
     record {
-      now = with_value edit.value edit.key it.now;
+      now = with_row_value edit.value edit.key it.now;
       has = row_put old new it.now edit.key edit.value (put it.has.keyed) it.has;
-      same = sym (ap (λ left. edited left it.now) behind) ∙ it.same;
+      same = sym (ap (λ left. rows_after_edits left it.now) behind) ∙ it.same;
     }
 
 pub none_left : (trees : Trees) (all : List RowEdit) (at : ℕ) (rows : SessionRows) → length all ≤ at → IsEdited trees all (drop at all) rows
-    → HasSessionRows trees (edited all rows)
+    → HasSessionRows trees (rows_after_edits all rows)
 none_left trees all at rows past it =
-    subst (HasSessionRows trees) (sym (ap (λ left. edited left it.now) (drop_all at all past)) ∙ it.same) it.has
+    subst (HasSessionRows trees) (sym (ap (λ left. rows_after_edits left it.now) (drop_all at all past)) ∙ it.same) it.has
 
 -- ---- beside the objects
 
@@ -102,7 +102,7 @@ none_left trees all at rows past it =
 pub brought : (old mid late new : View) (objects : Objects) (changes : Noted) (edits : List RowEdit)
     → LeavesOthers old mid 0 → LeavesOthers mid late 1 → LeavesOthers late new 2
     → (SpellsBut old.trees objects (has_name changes) (has_key changes) → HaveOwners old.trees → SpellsObjects late.trees objects)
-    → ((rows : SessionRows) → HasSessionRows late.trees rows → HasSessionRows new.trees (edited edits rows))
+    → ((rows : SessionRows) → HasSessionRows late.trees rows → HasSessionRows new.trees (rows_after_edits edits rows))
     → Brings old.trees new.trees objects changes edits
 brought old mid late new objects changes edits headers pairs others spell edit spelled owners =
     let all = spell spelled owners in

@@ -14,7 +14,7 @@ use Rattle.objstore.specs.Objects.{Objects, header_at}
 use Rattle.sqlite_value.specs.Order.{Row}
 use Rattle.sqlite_trees.specs.Tree.{Trees}
 use Rattle.sqlite_trees.specs.View.{View}
-use Rattle.object_tables.specs.Entries.{HasRow, IsIn, IsKeyedTable, PutsRow, Says, SetsEntry, entry, one_text, two_texts}
+use Rattle.object_tables.specs.Entries.{HasRow, IsElement, IsKeyedTable, PutsRow, Says, SetsEntry, entry, one_text, two_texts}
 use Rattle.object_tables.specs.Noted.{Noted, Spot, has_key, has_name, is_key_of, is_name_of, spot_cmp}
 use Rattle.object_tables.specs.Spelled.{AreRight, HaveOneSpelling, HaveOwners, SpellsObjects, SpellsBut, StayListed, object_key, pair_key, value_at}
 
@@ -190,7 +190,7 @@ right_put old new objects name key fresh put right n k v there row = at (eq_by_c
     at : (b : Bool) → eq_by_cmp spot_cmp (n, k) (name, key) ≡ b → value_at objects n k ≡ Some v
     at true e =
         let same : ◌≡◌ {A = Spot} (n, k) (name, key) = same_spot (n, k) (name, key) e in
-        let here = subst (λ (x : Spot). IsIn (entry (pair_key x.0 x.1) v) (new.trees 1)) same row in
+        let here = subst (λ (x : Spot). IsElement (entry (pair_key x.0 x.1) v) (new.trees 1)) same row in
         subst (λ (x : Spot). value_at objects x.0 x.1 ≡ Some v) (sym same) ((put.sets.here v).0 here)
     at false e =
         right n k v there ((put.sets.others (pair_key n k) v (λ same. apart_spots (n, k) (name, key) e (let a : n ≡ name = cc in let b : k ≡ key = cc in λ i. (a i, b i)))).0 row)

@@ -10,7 +10,7 @@ use Rattle.sqlite_trees.specs.declared.store.Direction.TheVariants.{Forward}
 use Rattle.sqlite_trees.specs.Tree.{IsIndex, Trees, from_key, insert_entry, order_of, remove_entry, sought}
 use Rattle.sqlite_trees.specs.View.{Advances, Commits, IsOrdered, IsClean, IsRolledBack, IsShaped, KeepsSchema, OnlyWrites, SetsTree, View, with_cursor}
 use Rattle.object_tables.specs.Entries.{IsKey, HasNoOther, HoldsValue, IsKeyedTable, LeavesOthers, Looks, Misses, PutsRow, SetsEntry, entry, texts_of}
-use Rattle.object_tables.specs.Reading.{Reads}
+use Rattle.object_tables.specs.Reading.{HasRowsLeft}
 use Rattle.object_tables.proofs.ReadLaws.{from_no_key}
 use Rattle.object_tables.proofs.EntryLaws.{begins_itself, looked, looked_past, none_other, set_absent, set_added, set_already, set_removed, set_then}
 
@@ -165,7 +165,7 @@ on_ok_both (Err e) P Q R f p q = tt
 -- ---- reads
 
 pub reads_start : (old mid : View) (tree : ℕ) (key : Row) → key ≡ [] → old.shape tree ≡ Index plain → old.is_broken ≡ false
-    → mid ≡ with_cursor old 0 (sought (order_of (old.shape tree)) Forward key (old.trees tree)) → Reads mid tree []
+    → mid ≡ with_cursor old 0 (sought (order_of (old.shape tree)) Forward key (old.trees tree)) → HasRowsLeft mid tree []
 reads_start old mid tree key none shape sound seek = record {
   sound = ap (λ (v : View). v.is_broken) seek ∙ sound;
   left = old.trees tree;
@@ -173,8 +173,8 @@ reads_start old mid tree key none shape sound seek = record {
   whole = sym (ap (λ (v : View). v.trees tree) seek);
 }
 
-pub reads_more : (mid new : View) (tree : ℕ) (seen : List Row) (row : Row) (found : Bool) → Reads mid tree seen → Advances mid new 0 row found → found ≡ true
-    → Reads new tree (seen ++ row ∷ [])
+pub reads_more : (mid new : View) (tree : ℕ) (seen : List Row) (row : Row) (found : Bool) → HasRowsLeft mid tree seen → Advances mid new 0 row found → found ≡ true
+    → HasRowsLeft new tree (seen ++ row ∷ [])
 reads_more mid new tree seen row true reads moved f =
     let left : reads.left ≡ row ∷ moved.0 = some_same _ _ (sym reads.cursor ∙ moved.1) in
     record {
@@ -185,7 +185,7 @@ reads_more mid new tree seen row true reads moved f =
     }
 reads_more mid new tree seen row false reads moved f = absurd (true≢false (sym f))
 
-pub reads_all : (mid new : View) (tree : ℕ) (seen : List Row) (row : Row) (found : Bool) → Reads mid tree seen → Advances mid new 0 row found → found ≡ false
+pub reads_all : (mid new : View) (tree : ℕ) (seen : List Row) (row : Row) (found : Bool) → HasRowsLeft mid tree seen → Advances mid new 0 row found → found ≡ false
     → seen ≡ mid.trees tree
 reads_all mid new tree seen row false reads moved f =
     let left : reads.left ≡ [] = some_same _ _ (sym reads.cursor ∙ moved.0) in

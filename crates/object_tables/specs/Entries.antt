@@ -8,9 +8,9 @@ use Rattle.sqlite_value.specs.Keys.{plain, prefix_cmp}
 use Rattle.sqlite_trees.specs.View.{OnlyWrites, View}
 
 -- an element of a list
-abbrev pub IsIn : {X : Type 0} → X → List X → Type 0
-IsIn x [] = ⊥
-IsIn x (y ∷ ys) = (y ≡ x) ⊎ IsIn x ys
+abbrev pub IsElement : {X : Type 0} → X → List X → Type 0
+IsElement x [] = ⊥
+IsElement x (y ∷ ys) = (y ≡ x) ⊎ IsElement x ys
 
 -- a column of a key is a text or a blob
 abbrev pub IsKeyColumn : Value → Type 0
@@ -25,16 +25,16 @@ IsKey [] = Unit {0}
 IsKey (v ∷ vs) = IsKeyColumn v × IsKey vs
 
 -- which columns of a key are texts: each other one is a blob
-abbrev pub is_text : Value → Bool
-is_text Null = false
-is_text (Int n) = false
-is_text (Real x) = false
-is_text (Text t) = true
-is_text (Blob b) = false
+abbrev pub is_text_column : Value → Bool
+is_text_column Null = false
+is_text_column (Int n) = false
+is_text_column (Real x) = false
+is_text_column (Text t) = true
+is_text_column (Blob b) = false
 
 abbrev pub texts_of : Row → List Bool
 texts_of [] = []
-texts_of (v ∷ vs) = is_text v ∷ texts_of vs
+texts_of (v ∷ vs) = is_text_column v ∷ texts_of vs
 
 -- the row of a key and its value
 abbrev pub entry : Row → List ℕ → Row
@@ -50,8 +50,8 @@ pub record IsEntryRow (texts : List Bool) (row : Row) : Type 0 where
 
 -- each row is such, and no key has two values
 pub record IsKeyedTable (texts : List Bool) (rows : List Row) : Type 0 where
-  pub entries : (row : Row) → IsIn row rows → IsEntryRow texts row
-  pub once : (key : Row) (a b : List ℕ) → IsIn (entry key a) rows → IsIn (entry key b) rows → a ≡ b
+  pub entries : (row : Row) → IsElement row rows → IsEntryRow texts row
+  pub once : (key : Row) (a b : List ℕ) → IsElement (entry key a) rows → IsElement (entry key b) rows → a ≡ b
 
 -- a table's key may be one text, two of them, or one blob
 abbrev pub one_text : List Bool
@@ -65,20 +65,20 @@ one_blob = false ∷ []
 
 -- a key has a row; and it has none but that of this value
 abbrev pub HasRow : List Row → Row → Type 0
-HasRow rows key = (value : List ℕ) × IsIn (entry key value) rows
+HasRow rows key = (value : List ℕ) × IsElement (entry key value) rows
 
 abbrev pub HasNoOther : List Row → Row → List ℕ → Type 0
-HasNoOther rows key value = (v : List ℕ) → IsIn (entry key v) rows → v ≡ value
+HasNoOther rows key value = (v : List ℕ) → IsElement (entry key v) rows → v ≡ value
 
 -- the key has just this value there, or none
 abbrev pub Says : List Row → Row → Option (List ℕ) → Type 0
-Says rows key value = (v : List ℕ) → IsIn (entry key v) rows ↔ (value ≡ Some v)
+Says rows key value = (v : List ℕ) → IsElement (entry key v) rows ↔ (value ≡ Some v)
 
 -- the key has this value now, or none, and each other what it had
 pub record SetsEntry (old new : List Row) (key : Row) (value : Option (List ℕ)) : Type 0 where
   pub table : IsKeyedTable (texts_of key) new
   pub here : Says new key value
-  pub others : (k : Row) (v : List ℕ) → (k ≡ key → ⊥) → IsIn (entry k v) new ↔ IsIn (entry k v) old
+  pub others : (k : Row) (v : List ℕ) → (k ≡ key → ⊥) → IsElement (entry k v) new ↔ IsElement (entry k v) old
 
 -- each tree but one is as it was
 abbrev pub LeavesOthers : View → View → ℕ → Type 0
@@ -98,8 +98,8 @@ Misses rows key false = HasRow rows key → ⊥
 
 -- the row is of this key; or none is
 abbrev pub FindsEntry : List Row → Row → Row → Bool → Type 0
-FindsEntry rows key row true = IsIn row rows × (prefix_cmp plain row key ≡ Equal)
-FindsEntry rows key row false = (r : Row) → IsIn r rows → prefix_cmp plain r key ≡ Equal → ⊥
+FindsEntry rows key row true = IsElement row rows × (prefix_cmp plain row key ≡ Equal)
+FindsEntry rows key row false = (r : Row) → IsElement r rows → prefix_cmp plain r key ≡ Equal → ⊥
 
 -- a look for a row changes nothing but cursors
 pub record Looks (old new : View) (tree : ℕ) (key row : Row) (found : Bool) : Type 0 where

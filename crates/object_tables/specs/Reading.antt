@@ -66,7 +66,7 @@ abbrev pub with_batch : Objects → Batch → Objects
 with_batch objects batch = with_unset objects batch.name batch.pairs batch.last
 
 -- the object of a name has, with the pairs that wait, no such key and none after it; and all is as it was before
-pub record IsReady (objects : Objects) (name : List ℕ) (op : WriteOp) (key : List ℕ) (before : Objects) : Type 0 where
+pub record IsReadUpTo (objects : Objects) (name : List ℕ) (op : WriteOp) (key : List ℕ) (before : Objects) : Type 0 where
   pub object : Omap
   pub there : finmap.get objects name ≡ Some object
   pub sets : op ≡ sets_pairs op.set
@@ -88,7 +88,7 @@ pub record SpellPairs (heads rows : List Row) (objects : Objects) : Type 0 where
   pub values : (name key : List ℕ) → Says rows (pair_key name key) (value_at objects name key)
 
 -- a cursor has the rest of a table's rows, of which some were seen
-pub record Reads (v : View) (tree : ℕ) (seen : List Row) : Type 0 where
+pub record HasRowsLeft (v : View) (tree : ℕ) (seen : List Row) : Type 0 where
   pub sound : v.is_broken ≡ false
   pub left : List Row
   pub cursor : v.cursors 0 ≡ Some left

@@ -6,7 +6,7 @@ use Rattle.sqlite_value.specs.declared.value.Value.TheVariants.{Blob}
 use Rattle.sqlite_value.specs.Order.{Row}
 use Rattle.sqlite_trees.specs.Tree.{Trees}
 use Rattle.keeping.specs.declared.rows.RowEdit.{RowEdit}
-use Rattle.keeping.specs.Rows.{SessionRows, edited}
+use Rattle.keeping.specs.Rows.{SessionRows, rows_after_edits}
 use Rattle.object_tables.specs.Entries.{IsKeyedTable, Says, entry, one_blob}
 use Rattle.object_tables.specs.Noted.{Noted, has_key, has_name}
 use Rattle.object_tables.specs.Spelled.{HaveOwners, SpellsBut, SpellsObjects}
@@ -34,7 +34,7 @@ HaveOneSessionMap = (trees : Trees) (a b : SessionRows) → HasSessionRows trees
 abbrev pub Brings : Trees → Trees → Objects → Noted → List RowEdit → Type 0
 Brings old new objects changes edits =
     SpellsBut old objects (has_name changes) (has_key changes) → HaveOwners old
-    → SpellsObjects new objects × ((rows : SessionRows) → HasSessionRows old rows → HasSessionRows new (edited edits rows))
+    → SpellsObjects new objects × ((rows : SessionRows) → HasSessionRows old rows → HasSessionRows new (rows_after_edits edits rows))
 
 -- a row is added, which the table's row spells
 pub record AddsRow (old new : SessionRows) (row : Row) : Type 0 where

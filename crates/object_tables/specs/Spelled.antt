@@ -10,7 +10,7 @@ use Rattle.sqlite_value.specs.Keys.{plain}
 use Rattle.sqlite_trees.specs.declared.store.Shape.TheVariants.{Index}
 use Rattle.sqlite_trees.specs.Tree.{Trees}
 use Rattle.sqlite_trees.specs.View.{View}
-use Rattle.object_tables.specs.Entries.{HasRow, IsIn, IsKeyedTable, Says, entry, one_text, two_texts}
+use Rattle.object_tables.specs.Entries.{HasRow, IsElement, IsKeyedTable, Says, entry, one_text, two_texts}
 
 -- an object's key in its table, and a pair's in its own
 abbrev pub object_key : List ℕ → Row
@@ -39,12 +39,12 @@ SpellsObjects trees objects = SpellsBut trees objects (λ _. false) (λ _ _. fal
 -- each pair's object has a row: so an object that has none has no pairs there
 abbrev pub HaveOwners : Trees → Type 0
 HaveOwners trees =
-    (name key value : List ℕ) → IsIn (entry (pair_key name key) value) (trees 1) → HasRow (trees 0) (object_key name)
+    (name key value : List ℕ) → IsElement (entry (pair_key name key) value) (trees 1) → HasRow (trees 0) (object_key name)
 
 -- of these names there is no pair but those that the objects have
 abbrev pub AreRight : List Row → Objects → (List ℕ → Bool) → Type 0
 AreRight rows objects names =
-    (name key value : List ℕ) → names name ≡ true → IsIn (entry (pair_key name key) value) rows → value_at objects name key ≡ Some value
+    (name key value : List ℕ) → names name ≡ true → IsElement (entry (pair_key name key) value) rows → value_at objects name key ≡ Some value
 
 -- no object that is there has lost its row
 abbrev pub StayListed : List Row → List Row → Objects → Type 0

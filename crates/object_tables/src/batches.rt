@@ -4,7 +4,7 @@ ghost use Rattle.std.specs.FinMap as map;
 ghost use Rattle.objstore.specs.Objects.{written};
 ghost use Rattle.objstore.specs.Writes.{nothing};
 ghost use Rattle.object_tables.specs.Entries.{entry};
-ghost use Rattle.object_tables.specs.Reading.{AddsPair, HasBatch, IsReady, Precedes, with_batch};
+ghost use Rattle.object_tables.specs.Reading.{AddsPair, HasBatch, IsReadUpTo, Precedes, with_batch};
 ghost use Rattle.object_tables.specs.Spelled.{pair_key};
 
 use crate::reading::ReadFault;
@@ -68,7 +68,7 @@ fn make_ready(
     key: &Bytes,
 ) -> Result<(), ReadFault>
     requires { HasBatch objects.old batch.old }
-    ensures ready { OnOk result (IsReady objects.new batch.new.name batch.new.pairs key.now
+    ensures ready { OnOk result (IsReadUpTo objects.new batch.new.name batch.new.pairs key.now
         (with_batch objects.old batch.old)) }
     ensures name { OnOk result (batch.new.name ≡ name.now) }
 {
@@ -94,7 +94,7 @@ fn go_on(
     key: &Bytes,
 ) -> Result<(), ReadFault>
     requires { HasBatch objects.old batch.old }
-    ensures ready { OnOk result (IsReady objects.new batch.new.name batch.new.pairs key.now
+    ensures ready { OnOk result (IsReadUpTo objects.new batch.new.name batch.new.pairs key.now
         (with_batch objects.old batch.old)) }
     ensures name { batch.new.name ≡ batch.old.name }
 {
@@ -125,7 +125,7 @@ fn turn_to(
     name: &[u8],
 ) -> Result<(), ReadFault>
     requires { HasBatch objects.old batch.old }
-    ensures ready { OnOk result ((key : List ℕ) → IsReady objects.new batch.new.name batch.new.pairs key
+    ensures ready { OnOk result ((key : List ℕ) → IsReadUpTo objects.new batch.new.name batch.new.pairs key
         (with_batch objects.old batch.old)) }
     ensures name { OnOk result (batch.new.name ≡ name.now) }
 {

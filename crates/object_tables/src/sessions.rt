@@ -3,7 +3,7 @@ ghost use Rattle.std.specs.Prelude.{◌≡◌, ◌≤◌, IsTrue, IfOk, OnOk, op
 ghost use Rattle.sqlite_trees.specs.View.{IsClean, IsQuiet, KeepsSchema, OnlyWrites};
 ghost use Rattle.object_tables.specs.Entries.{IsKeyedTable, LeavesOthers, PutsRow, one_blob};
 ghost use Rattle.object_tables.specs.Sessions.{AddsRow, HasSessionRows, session_key};
-ghost use Rattle.keeping.specs.Rows.{SessionRows, edited};
+ghost use Rattle.keeping.specs.Rows.{SessionRows, rows_after_edits};
 ghost use Rattle.object_tables.specs.Spelled.{HasTables};
 
 use crate::entries::put_entry;
@@ -92,7 +92,7 @@ pub fn write_rows<T: Store>(
     requires { IsClean (T.Store.view trees.old) → HasTables (T.Store.view trees.old) }
     ensures ok { OnOk result (IsClean (T.Store.view trees.new) → (rows : SessionRows)
         → HasSessionRows (T.Store.view trees.old).trees rows
-        → HasSessionRows (T.Store.view trees.new).trees (edited edits.now rows)) }
+        → HasSessionRows (T.Store.view trees.new).trees (rows_after_edits edits.now rows)) }
     ensures others { OnOk result (IsClean (T.Store.view trees.new)
         → LeavesOthers (T.Store.view trees.old) (T.Store.view trees.new) 2) }
     ensures frame { OnOk result (IsClean (T.Store.view trees.new)

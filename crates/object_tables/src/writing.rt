@@ -4,7 +4,7 @@ ghost use Rattle.std.specs.FinMap as map;
 ghost use Rattle.objstore.specs.Objects.{header_at};
 ghost use Rattle.sqlite_trees.specs.Tree.{Trees};
 ghost use Rattle.sqlite_trees.specs.View.{IsClean, IsQuiet, KeepsSchema, OnlyWrites, doubt};
-ghost use Rattle.object_tables.specs.Entries.{HasRow, IsIn, IsKeyedTable, LeavesOthers, PutsRow, entry, one_text, two_texts};
+ghost use Rattle.object_tables.specs.Entries.{HasRow, IsElement, IsKeyedTable, LeavesOthers, PutsRow, entry, one_text, two_texts};
 ghost use Rattle.object_tables.specs.Noted.{is_key_of, is_name_of};
 ghost use Rattle.object_tables.specs.Sessions.{Brings};
 ghost use Rattle.object_tables.specs.Spelled.{AreRight, HasTables, HaveOwners, SpellsBut, object_key, pair_key, value_at};
@@ -216,7 +216,7 @@ fn put_pair<T: Store>(
     requires { IsClean (T.Store.view trees.old) → HasTables (T.Store.view trees.old) }
     ensures ok { OnOk result (IsClean (T.Store.view trees.new)
         → IsKeyedTable two_texts ((T.Store.view trees.old).trees 1)
-        → (is_new ≡ true → (v : List ℕ) → IsIn (entry (pair_key spot.now.0 spot.now.1) v) ((T.Store.view trees.old).trees 1)
+        → (is_new ≡ true → (v : List ℕ) → IsElement (entry (pair_key spot.now.0 spot.now.1) v) ((T.Store.view trees.old).trees 1)
         → option_copied value.entry ≡ Some v)
         → PutsRow (T.Store.view trees.old) (T.Store.view trees.new) 1 (pair_key spot.now.0 spot.now.1) (option_copied value.entry)) }
     ensures others { OnOk result (IsClean (T.Store.view trees.new)

@@ -26,8 +26,8 @@ unfoldable pub written : Objects → List ℕ → WriteOp → Objects
 written objects name op = finmap.insert objects name (applied op (unwrap_or (finmap.get objects name) empty_omap))
 
 -- the names greater than `after`, in order; all names, if none is given
-unfoldable pub names_after : Objects → Option (List ℕ) → List (List ℕ)
-names_after objects after = map (λ e. e.0) (filter (λ e. is_after after e.0) (finmap.entries objects))
+unfoldable pub object_names_after : Objects → Option (List ℕ) → List (List ℕ)
+object_names_after objects after = map (λ e. e.0) (filter (λ e. is_after after e.0) (finmap.entries objects))
 
 -- some names in order, and whether more follow
 pub record NameList : Type 0 where

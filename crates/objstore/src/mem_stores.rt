@@ -4,7 +4,7 @@ ghost use Rattle.std.specs.FinMap as finmap;
 ghost use Rattle.mds_types.specs.declared.refusals.Refusal.TheVariants.{NoMemory};
 ghost use Rattle.objstore.specs.Omap.{Omap, empty_omap, key_cmp};
 ghost use Rattle.objstore.specs.Writes.{applied};
-ghost use Rattle.objstore.specs.Objects.{header_at, names_after, page_at, written};
+ghost use Rattle.objstore.specs.Objects.{header_at, object_names_after, page_at, written};
 ghost use Rattle.sorted_map.specs.SortedMap.{contents};
 
 use crate::name_pages::{NamePage, first_names};
@@ -233,7 +233,7 @@ fn rest_after<'a>(
     after: Option<&str>,
 ) -> Iter<'a, Text, Object>
     ensures { map (λ (e : List ℕ × Omap). e.0) result
-        ≡ names_after (contents key_cmp objects.entry.now) (option_copied after.entry) }
+        ≡ object_names_after (contents key_cmp objects.entry.now) (option_copied after.entry) }
 {
     match after {
         Some(name) => objects.iter_after(&TextRef { text: name }),

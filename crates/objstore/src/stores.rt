@@ -3,7 +3,7 @@ ghost use Rattle.std.specs.Prelude.{◌≡◌, ◌+◌, ◌≤◌, ℕ, Option, 
 ghost use Rattle.std.specs.Result.{result_err};
 ghost use Rattle.std.specs.FinMap as map;
 ghost use Rattle.mds_types.specs.declared.refusals.Refusal.{Refusal as Reason};
-ghost use Rattle.objstore.specs.Objects.{Objects, MayRefuse, faults_told, first_names, header_at, names_after, page_at, written};
+ghost use Rattle.objstore.specs.Objects.{Objects, MayRefuse, faults_told, first_names, header_at, object_names_after, page_at, written};
 
 use crate::name_pages::NamePage;
 use crate::pages::Page;
@@ -79,7 +79,7 @@ pub trait Store {
     ) -> Result<NamePage, Refusal>
         requires { 1 ≤ max }
         ensures found { IfOk result (λ page. page
-            ≡ first_names max (names_after (objects self.old) (option_copied after.entry))) }
+            ≡ first_names max (object_names_after (objects self.old) (option_copied after.entry))) }
         ensures same { objects self.new ≡ objects self.old }
         ensures grows { faults self.old ≤ faults self.new }
         ensures refused { IfErr result (MayRefuse (faults self.old) (faults self.new)) }

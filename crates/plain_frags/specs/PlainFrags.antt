@@ -31,8 +31,8 @@ IsReadyBy f None (Some put) true =
 IsReadyBy f None (Some put) false = Unit {0}
 IsReadyBy f (Some spot) (Some put) comes = (0 < f.entries_left) × (f.spare ≡ Some put.0.name)
 
-abbrev pub IsReady : Kept → Change → Type 0
-IsReady f change = IsReadyBy f change.takes change.puts change.comes
+abbrev pub IsPreparedFor : Kept → Change → Type 0
+IsPreparedFor f change = IsReadyBy f change.takes change.puts change.comes
 
 -- reads and refusals keep the tree and the leaves of each directory, whatever room they leave
 abbrev pub KeepsShown : Kept → Kept → Type 0

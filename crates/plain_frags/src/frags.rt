@@ -11,7 +11,7 @@ ghost use Rattle.mds_types.specs.declared.refusals.Refusal.TheVariants.{NoMemory
 ghost use Rattle.inode_table.specs.TreeChanges.{KeepLeaves};
 ghost use Rattle.namespace_ops.specs.Changes.{MayChange, changed, fragments_of};
 ghost use Rattle.namespace_ops.specs.Kept.{ChangesOnly};
-ghost use Rattle.plain_frags.specs.PlainFrags.{IsReady, Kept, LeafStays, is_numbered};
+ghost use Rattle.plain_frags.specs.PlainFrags.{IsPreparedFor, Kept, LeafStays, is_numbered};
 
 use super::changes::{move_entry, put_entry, remove_entry};
 use super::listing::{count_rows, first_rows, next_in};
@@ -241,7 +241,7 @@ impl Frags for PlainFrags {
 impl PlainFrags {
     // Makes every growth that a change needs.
     fn ready(&mut self, change: &Change) -> Result<(), Refusal>
-        ensures ready { OnOk result (IsReady self.new change.now) }
+        ensures ready { OnOk result (IsPreparedFor self.new change.now) }
         ensures tree { self.new.tree ≡ self.old.tree }
         ensures homes { self.new.homes ≡ self.old.homes }
         ensures covers { self.new.covers ≡ self.old.covers }
@@ -268,7 +268,7 @@ impl PlainFrags {
 
     // Makes a change for which there is room.
     fn make(&mut self, change: Change)
-        requires ready { IsReady self.old change }
+        requires ready { IsPreparedFor self.old change }
         requires may { MayChange self.old.tree self.old.covers change }
         ensures changed { self.new.tree ≡ changed self.old.tree change }
         ensures leaves { KeepLeaves self.new.tree self.old.covers self.new.covers }

@@ -14,7 +14,7 @@ pub use Rattle.mds_types.specs.declared.refusals.Refusal.{Refusal}
 pub use Rattle.mds_types.specs.declared.requests.Request.{Request}
 pub use Rattle.rank_threads.specs.Continued.{Continues, StaysBehind}
 pub use Rattle.rank_threads.specs.Sent.{EachIsSent, Serves, plan_arrivals, plans_arrivals, turn_arrival}
-pub use Rattle.rank_threads.specs.Standing.{Fits, IsHeldAmong, HasEntry, StandAmong, marked}
+pub use Rattle.rank_threads.specs.Standing.{Fits, IsHeldAmong, HasEntry, StandAmong, places_marked}
 pub use Rattle.rank_threads.specs.Turns.{AreAnswered, FitsTurn, PlansAnswered, first_in, firsts, firsts_of_all, receipts_of_all}
 pub use Rattle.rank_threads.specs.declared.plans.Turn.{Turn}
 pub use Rattle.sorted_map.proofs.Decided.{pair_decides}

@@ -9,7 +9,7 @@ use Rattle.mds_types.specs.declared.ids.Ino.{Ino}
 use Rattle.mds_types.specs.declared.replies.Reply.{Reply}
 use Rattle.mds_types.specs.History.{IsPairAt}
 use Rattle.sessions.specs.Aside.{AreSetAside, IsAsideFor}
-use Rattle.sessions.specs.Table.{IsKeptFor, IsTableOf, Table}
+use Rattle.sessions.specs.Table.{IsReplyPlace, IsTableOf, Table}
 
 -- a fact is there where it is kept that it holds
 abbrev Stable : Type 0 → Type 0
@@ -63,7 +63,7 @@ pair_at history client tid place h = record {
   pair = λ e. same_test _ _ (∥∥₁_map h (λ s. s.pair e));
 }
 
-kept_for : (history : List Entry) (client tid : ℕ) (kept : Option ℕ) → Stable (IsKeptFor history client tid kept)
+kept_for : (history : List Entry) (client tid : ℕ) (kept : Option ℕ) → Stable (IsReplyPlace history client tid kept)
 kept_for history client tid (Some place) h = (at_most _ _ (∥∥₁_map h (λ s. s.0)), pair_at history client tid place (∥∥₁_map h (λ s. s.1)))
 kept_for history client tid None h = λ marked. same_test _ _ (∥∥₁_map h (λ s. s marked))
 

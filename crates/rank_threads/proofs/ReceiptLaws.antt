@@ -1,5 +1,5 @@
 -- Receipts, looked at from the last to the first.
-use Rattle.rank_threads.proofs.Common.{Agree, AllByRecursion, NoneTwice, Bool, Entry, Fits, IsHeld, IsHeldAmong, HasEntry, List, Receipt, Stand, StandAmong, [], ap, arith, cond, drop, drop-length, drop_more, false, first_places, get_or, get_or-replicate, length, length-append, length-replicate, length-set, list_any, marked, nat_eq, refl, replicate, rules, set, subst, suc, sym, true, zero, ℕ, ◌++◌, ◌+◌, ◌-◌, ◌<◌, ◌||◌, ◌∙◌, ◌∷◌, ◌≡◌, ◌≤◌}
+use Rattle.rank_threads.proofs.Common.{Agree, AllByRecursion, NoneTwice, Bool, Entry, Fits, IsHeld, IsHeldAmong, HasEntry, List, Receipt, Stand, StandAmong, [], ap, arith, cond, drop, drop-length, drop_more, false, first_places, get_or, get_or-replicate, length, length-append, length-replicate, length-set, list_any, places_marked, nat_eq, refl, replicate, rules, set, subst, suc, sym, true, zero, ℕ, ◌++◌, ◌+◌, ◌-◌, ◌<◌, ◌||◌, ◌∙◌, ◌∷◌, ◌≡◌, ◌≤◌}
 use Rattle.std.specs.Prelude.{IsTrue, ◌↔◌}
 use Rattle.std.proofs.lemmas.Bool.{eq-eqb, eqb-true, false≢true}
 use Rattle.std.proofs.Math.Seq.{get_or-append-add}
@@ -77,7 +77,7 @@ at_place : (forgotten p place : ℕ) → forgotten ≤ place → nat_eq p (place
 at_place forgotten p place there = sym (same_place forgotten p (place - forgotten)) ∙ ap (λ n. nat_eq (forgotten + p) n) (back forgotten place there)
 
 module _ (forgotten count : ℕ) (r : Receipt) (rs : List Receipt) where
-  named_more : (b : Bool) → r.first ≡ b → (named : List Bool) → AreMarked forgotten count named rs → HasEntry forgotten r → r.place - forgotten < count → AreMarked forgotten count (marked forgotten named r) (r ∷ rs)
+  named_more : (b : Bool) → r.first ≡ b → (named : List Bool) → AreMarked forgotten count named rs → HasEntry forgotten r → r.place - forgotten < count → AreMarked forgotten count (places_marked forgotten named r) (r ∷ rs)
   named_more true is named m there below = record {
     len = rw is (length-set named (r.place - forgotten) true ∙ m.len);
     at = λ p low. rw is (set_at named (r.place - forgotten) p (omega (arith, m.len, below)) ∙ (λ i. at_place forgotten p r.place there i || m.at p low i));
@@ -85,7 +85,7 @@ module _ (forgotten count : ℕ) (r : Receipt) (rs : List Receipt) where
   named_more false is named m there below = record { len = rw is m.len; at = λ p low. rw is (m.at p low) }
 
   -- the places of one receipt more are named
-  pub marked_more : (named : List Bool) → AreMarked forgotten count named rs → HasEntry forgotten r → r.place - forgotten < count → AreMarked forgotten count (marked forgotten named r) (r ∷ rs)
+  pub marked_more : (named : List Bool) → AreMarked forgotten count named rs → HasEntry forgotten r → r.place - forgotten < count → AreMarked forgotten count (places_marked forgotten named r) (r ∷ rs)
   marked_more named m there below = named_more r.first refl named m there below
 
 -- at the end of the list no place is named
@@ -113,7 +113,7 @@ stand_at forgotten history from rs k named d below m h =
 -- one receipt more, from the place before
 pub stand_back : (forgotten : ℕ) (history : List Entry) (from : ℕ) (rs : List Receipt) (k : ℕ) (named : List Bool) (d : Receipt) → k < length rs
     → AreMarked forgotten (length history) named (drop (k + 1) rs) → StandAmong forgotten history from (drop (k + 1) rs) → Fits forgotten history from named (get_or rs k d)
-    → AreMarked forgotten (length history) (marked forgotten named (get_or rs k d)) (drop k rs) × StandAmong forgotten history from (drop k rs)
+    → AreMarked forgotten (length history) (places_marked forgotten named (get_or rs k d)) (drop k rs) × StandAmong forgotten history from (drop k rs)
 stand_back forgotten history from rs k named d below m h f =
     rw (drop_more rs k d below) (marked_more forgotten (length history) (get_or rs k d) (drop (k + 1) rs) named m f.held.0 f.held.1.in_range, stand_more forgotten history from (get_or rs k d) (drop (k + 1) rs) named h m f)
 
@@ -130,12 +130,12 @@ module _ (forgotten : ℕ) (history : List Entry) (from : ℕ) (rs : List Receip
   fits_there h = subst (λ (x : Receipt). Fits forgotten history from named x) (sym is) (stand_at forgotten history from rs (left - 1) named r (omega (arith, some, within)) marked_before h)
 
   -- one that fits stands with them
-  pub fit : StandAmong forgotten history from (drop left rs) → Fits forgotten history from named r → AreMarked forgotten (length history) (marked forgotten named r) (drop (left - 1) rs) × StandAmong forgotten history from (drop (left - 1) rs)
+  pub fit : StandAmong forgotten history from (drop left rs) → Fits forgotten history from named r → AreMarked forgotten (length history) (places_marked forgotten named r) (drop (left - 1) rs) × StandAmong forgotten history from (drop (left - 1) rs)
   fit h f =
       let behind : StandAmong forgotten history from (drop ((left - 1) + 1) rs) = subst (λ n. StandAmong forgotten history from (drop n rs)) (sym before) h in
       let its : Fits forgotten history from named (get_or rs (left - 1) r) = subst (λ (x : Receipt). Fits forgotten history from named x) is f in
       let w = stand_back forgotten history from rs (left - 1) named r (omega (arith, some, within)) marked_before behind its in
-      (subst (λ (x : Receipt). AreMarked forgotten (length history) (marked forgotten named x) (drop (left - 1) rs)) (sym is) w.0, w.1)
+      (subst (λ (x : Receipt). AreMarked forgotten (length history) (places_marked forgotten named x) (drop (left - 1) rs)) (sym is) w.0, w.1)
 
 -- ---- all entries together, those that are forgotten and those that aren't
 

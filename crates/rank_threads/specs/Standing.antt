@@ -26,5 +26,5 @@ pub record Fits (forgotten : ℕ) (history : List Entry) (from : ℕ) (named : L
   pub first : r.first ≡ true → (from ≤ r.place) × (get_or named (r.place - forgotten) false ≡ false)
 
 -- the named places after a receipt: its own is named too, if it is marked first
-abbrev pub marked : ℕ → List Bool → Receipt → List Bool
-marked forgotten named r = cond r.first (set named (r.place - forgotten) true) named
+abbrev pub places_marked : ℕ → List Bool → Receipt → List Bool
+places_marked forgotten named r = cond r.first (set named (r.place - forgotten) true) named

@@ -5,7 +5,7 @@ ghost use Rattle.cluster_core.specs.Opening.{Opening};
 ghost use Rattle.mds_types.specs.declared.entries.Entry.{Entry as Applied};
 ghost use Rattle.cluster_core.specs.OneThread.{Agree, first_places};
 ghost use Rattle.cluster_core.specs.Sound.{StandsBehind};
-ghost use Rattle.rank_threads.specs.Standing.{Fits, IsHeldAmong, HasEntry, StandAmong, marked};
+ghost use Rattle.rank_threads.specs.Standing.{Fits, IsHeldAmong, HasEntry, StandAmong, places_marked};
 
 use crate::replies::is_same;
 use cluster_core::{Book, Receipt};
@@ -122,7 +122,7 @@ fn is_named(named: &Vec<bool>, place: usize) -> bool
 fn mark(forgotten: usize, named: &mut Vec<bool>, receipt: &Receipt)
     requires there { HasEntry forgotten receipt.now }
     requires below { receipt.now.place - forgotten < vec_len named.old }
-    ensures { named.new.items ≡ marked forgotten named.old.items receipt.now }
+    ensures { named.new.items ≡ places_marked forgotten named.old.items receipt.now }
 {
     if receipt.first {
         named[receipt.place - forgotten] = true;

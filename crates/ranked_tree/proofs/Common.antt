@@ -1,6 +1,6 @@
 -- Names of other crates, and of this one's definitions, as the proofs of this crate take them.
 pub use Rattle.cached_frag.specs.Cached.{Cached, is_clean}
-pub use Rattle.cached_frag.specs.Rows.{Row}
+pub use Rattle.cached_frag.specs.Rows.{NamedInode}
 pub use Rattle.cached_frag.specs.declared.bases.Base.{Base}
 pub use Rattle.cached_frag.specs.declared.bases.Base.TheVariants.{Fresh, Stored}
 pub use Rattle.cached_frag.specs.declared.jobs.Job.{Job}
@@ -13,11 +13,11 @@ pub use Rattle.dentry_cache.proofs.StepLaws.{get_with_frag, here_given_up, ranks
 pub use Rattle.dentry_cache.proofs.UncleanLaws.{clean_there, get_unclean, last_passes}
 pub use Rattle.dentry_cache.specs.Cache.{IsThere, Unsaved, leaf_is, unsaved_in}
 pub use Rattle.dentry_cache.specs.CacheCalls.{KeepsNone, unclean_in}
-pub use Rattle.dentry_cache.specs.CacheMap.{AreCaches, At, CacheMap, IsFree, at, at_rank, clean_in, evicted, given_up, goes, has_place, here, no_caches, order, unclean, unclean_of, unsaved_at, victim}
+pub use Rattle.dentry_cache.specs.CacheMap.{AreCaches, At, CacheMap, IsFree, lies_by, at_rank, clean_in, evicted, given_up, goes, has_place, here, no_caches, order, unclean, unclean_of, unsaved_at, victim}
 pub use Rattle.dentry_cache.specs.CacheSplits.{IsFamilyAt}
 pub use Rattle.dentry_cache.specs.Came.{Came, IsThat, NoneEnds}
 pub use Rattle.dentry_cache.specs.Came.Came.{ends, stays}
-pub use Rattle.dentry_cache.specs.Handing.{AreCleanAt, AreUncleanAt, HandsOver, MayNotHandOver, moved_all}
+pub use Rattle.dentry_cache.specs.Handing.{AreCleanAt, AreUncleanAt, HandsFragmentsOver, MayNotHandOver, moved_all}
 pub use Rattle.dentry_cache.specs.Loading.{object_of}
 pub use Rattle.dentry_cache.specs.Reads.{Reads}
 pub use Rattle.dentry_cache.specs.Reads.Reads.{stays as reads_none}
@@ -33,7 +33,7 @@ pub use Rattle.export_regions.proofs.ManyLaws.{all_so}
 pub use Rattle.export_regions.proofs.NameLaws.{how_many}
 pub use Rattle.export_regions.proofs.PickLaws.{each_passes, passing_picked, picked_distinct, picked_passes}
 pub use Rattle.export_regions.proofs.WhereLaws.{IsHere, here_of}
-pub use Rattle.export_regions.specs.Regions.{AreCachedOf, HasTooMany, IsExportOf, IsIn, RegionLeaves, UncleanLeaves, sent_of}
+pub use Rattle.export_regions.specs.Regions.{AreCachedOf, HasTooMany, IsExportOf, IsOfRegion, RegionLeaves, UncleanLeaves, sent_of}
 pub use Rattle.export_regions.specs.Sending.{AreAtTheirRank, HasVersion, HaveVersions, MayNotSend}
 pub use Rattle.export_regions.specs.Spelling.{IsSpelled}
 pub use Rattle.export_regions.specs.declared.spelling.Spelled.{Spelled}
@@ -44,7 +44,7 @@ pub use Rattle.export_steps.proofs.HoldingSteps.{cancel_holding, finish_holding,
 pub use Rattle.export_steps.specs.Handover.{FreezesSoundly, HandsOver as HandsRegionOver}
 pub use Rattle.export_steps.specs.Holder.{HasHolder, IsFrozen, holder_or, holding, is_imported, region_holder}
 pub use Rattle.export_steps.specs.Regions.{AreFrozenRegionsKept, StandsOver}
-pub use Rattle.export_steps.specs.Standing.{ArePlaced, Cancels, ComesTo, Finishes, IsFreeze, Preps, Standing, Starts, Steps, come_to, is_freezing}
+pub use Rattle.export_steps.specs.Standing.{ArePlaced, Cancels, ComesTo, Finishes, IsFreeze, Preps, Standing, Starts, StepsExport, come_to, is_freezing}
 pub use Rattle.export_steps.specs.declared.exports.ExportState.{ExportState}
 pub use Rattle.export_steps.specs.declared.exports.ExportState.TheVariants.{Frozen, Imported, Prepared, Sent, Started}
 pub use Rattle.export_steps.specs.declared.exports.StandingExport.{StandingExport}
@@ -156,4 +156,4 @@ pub use Rattle.subtree_map.proofs.Options.{not_none, one_value, value_of}
 pub use Rattle.subtree_map.proofs.Split.{splits_soundly}
 pub use Rattle.subtree_map.specs.Authority.{HasAuthority, HoldsDentry, IsInRegion, IsSubtrees, Leaf, NearestRoot, Roots, inherited, itself}
 pub use Rattle.subtree_map.specs.Changes.{AreFilled, AreGone, BecomesMerged, BecomesSplit, HaveOneAuthority, IsRootMerge, IsRootSplit, KeepAuthority, Subtrees, is_inside}
-pub use Rattle.subtree_map.specs.Moves.{IsInheritedAt, IsLostRank, IsSettled}
+pub use Rattle.subtree_map.specs.Moves.{IsInheritedAt, IsLostRank, KeepsRanksOf}

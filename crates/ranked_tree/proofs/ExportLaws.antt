@@ -1,5 +1,5 @@
 -- What a change of the tree leaves of frozen regions, where it changes no frozen leaf: each of their leaves.
-use Rattle.ranked_tree.proofs.Common.{AreFrozenRegionsKept, ArePlaced, AreRoots, Bool, Change, Contains, Covers, FollowChange, HasLeaf, HoldsDentry, Home, Homes, IfSome, Ino, Inode, IsFrozen, IsInRegion, IsLive, IsPick, IsSettled, IsSound, Leaf, LoseDirectory, Makes, MatchBool, MayChange, MayGo, MayMove, None, Option, Roots, Shape, Some, Spot, Standing, StandsOver, State, Subtrees, [], add, after_making, after_move, after_removal, dentry_at, dir_or_not, false, first, fragments_of, hash_of, home_at, home_of, is_dir_kind, keep_frozen, later, leaf_of, leaves_gone, leaves_of, may_come, may_go, move, moved_home, moved_known, moves, one_holder, one_of_those, one_value, refl, relocates, remove, replaces, rows_but, set, shown_tree, subst, sym, true, with_dir, with_file, with_home, ℕ, ⊎_elim, ◌↔◌, ◌∙◌, ◌∷◌, ◌≡◌}
+use Rattle.ranked_tree.proofs.Common.{AreFrozenRegionsKept, ArePlaced, AreRoots, Bool, Change, Contains, Covers, FollowChange, HasLeaf, HoldsDentry, Home, Homes, IfSome, Ino, Inode, IsFrozen, IsInRegion, IsLive, IsPick, KeepsRanksOf, IsSound, Leaf, LoseDirectory, Makes, MatchBool, MayChange, MayGo, MayMove, None, Option, Roots, Shape, Some, Spot, Standing, StandsOver, State, Subtrees, [], add, after_making, after_move, after_removal, dentry_at, dir_or_not, false, first, fragments_of, hash_of, home_at, home_of, is_dir_kind, keep_frozen, later, leaf_of, leaves_gone, leaves_of, may_come, may_go, move, moved_home, moved_known, moves, one_holder, one_of_those, one_value, refl, relocates, remove, replaces, rows_but, set, shown_tree, subst, sym, true, with_dir, with_file, with_home, ℕ, ⊎_elim, ◌↔◌, ◌∙◌, ◌∷◌, ◌≡◌}
 use Rattle.std.specs.FinMap as map
 use Rattle.ranked_tree.proofs.ChangedTables.{added_tables, grown_tables, moved_tables, removed_tables, set_tables}
 use Rattle.ranked_tree.proofs.SubtreeLaws.{moves as rehomes}
@@ -71,7 +71,7 @@ module _ (standing : Standing) where
       able : is_dir_kind inode.kind ≡ true → MayMove old.homes inode.ino.0 (home_at (dentry_at to))
       able = relocates old sound from to inode went may
 
-      moving : (b : Bool) → is_dir_kind inode.kind ≡ b → MatchBool b (IsSettled was.roots follow.0 old.homes old.covers inode.ino.0 (home_at (dentry_at to))) (follow.0 ≡ was.roots) → Kept was mid old.homes moved old.covers old.covers
+      moving : (b : Bool) → is_dir_kind inode.kind ≡ b → MatchBool b (KeepsRanksOf was.roots follow.0 old.homes old.covers inode.ino.0 (home_at (dentry_at to))) (follow.0 ≡ was.roots) → Kept was mid old.homes moved old.covers old.covers
       moving true kinded its = after_move standing was mid old.homes moved old.covers over (record {
         dir = inode.ino.0;
         home = home_at (dentry_at to);

@@ -1,5 +1,5 @@
 -- What Import makes of a tree that is divided among ranks: the importer of a sent region holds it, and has what isn't clean of it.
-use Rattle.ranked_tree.proofs.Common.{AreAtTheirRank, AreCachedOf, AreCaches, AreCleanAt, ArePlaced, AreUncleanAt, At, Bool, CacheMap, Cached, ComeToImporter, ComesTo, Core, Covers, Dirfrag, Err, Export, HandsOver, HandsRegion, HandsRegionOver, HasHolder, HasTooMany, HaveNoJobs, Homes, IfErr, IfErr-weaker, Imported, Imports, IsDistinct, IsDivided, IsExportOf, IsGivenOver, IsHere, IsIn, IsInRegionOf, IsRenewed, IsSoundCore, IsSpelled, IsSpelledBy, KeepsOutside, LacksPlacesAt, Leaf, List, MatchOption, MayNotHandOver, MayNotImport, NearestRoot, None, Ok, OnErr, OnOk, Option, Rank, Refusal, RegionLeaves, Regions, Result, Sent, SentFrag, Some, Spelled, SpellsExport, SpellsRegion, StandSoundly, Standing, StandingExport, State, Subtrees, TakesRegion, UncleanLeaves, Unsaved, [], all_left_at, all_so, and_parts, ap, arith, at, at_rank, cases_Bool, clean_in, cond, cond_both, each_passes, eq_by_cmp, export_bytes, false, false≢true, few_lack, find, get-entries, handed_where, hands_over, held_in, here, here_of, holder_is, how_many, imported_unsaved, inl, inr, is_base_of, is_clean, is_frag_before, is_fragment, is_freezing, is_imported, is_name_before, is_same, is_sendable, is_sent_frag, is_sent_name, leaf_cmp, leaf_is, left_by, length, list_all, list_any, moved_all, nat_lt, nat_tests, near_to, none-some, none_unless, not, one_authority, one_export, one_root, one_value, option_map, order, passing_picked, picked_distinct, picked_passes, refl, rise, rules, same_Some, same_or_apart, sent_of, state_of, subst, sym, true, unclean, unclean_in, valid_so, wants_from, ℕ, ⊎_elim, ◌&&◌, ◌==◌, ◌^◌, ◌∙◌, ◌∷◌, ◌≡◌, ◌≤◌, ◌⊎◌}
+use Rattle.ranked_tree.proofs.Common.{AreAtTheirRank, AreCachedOf, AreCaches, AreCleanAt, ArePlaced, AreUncleanAt, At, Bool, CacheMap, Cached, ComeToImporter, ComesTo, Core, Covers, Dirfrag, Err, Export, HandsFragmentsOver, HandsRegion, HandsRegionOver, HasHolder, HasTooMany, HaveNoJobs, Homes, IfErr, IfErr-weaker, Imported, Imports, IsDistinct, IsDivided, IsExportOf, IsGivenOver, IsHere, IsOfRegion, IsInRegionOf, IsRenewed, IsSoundCore, IsSpelled, IsSpelledBy, KeepsOutside, LacksPlacesAt, Leaf, List, MatchOption, MayNotHandOver, MayNotImport, NearestRoot, None, Ok, OnErr, OnOk, Option, Rank, Refusal, RegionLeaves, Regions, Result, Sent, SentFrag, Some, Spelled, SpellsExport, SpellsRegion, StandSoundly, Standing, StandingExport, State, Subtrees, TakesRegion, UncleanLeaves, Unsaved, [], all_left_at, all_so, and_parts, ap, arith, lies_by, at_rank, cases_Bool, clean_in, cond, cond_both, each_passes, eq_by_cmp, export_bytes, false, false≢true, few_lack, find, get-entries, handed_where, hands_over, held_in, here, here_of, holder_is, how_many, imported_unsaved, inl, inr, is_base_of, is_clean, is_frag_before, is_fragment, is_freezing, is_imported, is_name_before, is_same, is_sendable, is_sent_frag, is_sent_name, leaf_cmp, leaf_is, left_by, length, list_all, list_any, moved_all, nat_lt, nat_tests, near_to, none-some, none_unless, not, one_authority, one_export, one_root, one_value, option_map, order, passing_picked, picked_distinct, picked_passes, refl, rise, rules, same_Some, same_or_apart, sent_of, state_of, subst, sym, true, unclean, unclean_in, valid_so, wants_from, ℕ, ⊎_elim, ◌&&◌, ◌==◌, ◌^◌, ◌∙◌, ◌∷◌, ◌≡◌, ◌≤◌, ◌⊎◌}
 use Rattle.std.specs.FinMap as map
 use Rattle.std.proofs.Common.{◌≢◌, is_some, map as list_map}
 use Rattle.ranked_tree.proofs.HeldLaws.{held_after}
@@ -65,7 +65,7 @@ module _ (core : Core) (regions : Regions) (divided : IsDivided core regions) (r
               absurd (false≢true (sym among ∙ dirty_picked leaf h.frag h.seen h.dirty near))
 
       -- each cached fragment of the region is at the importer then, and each other one is where it was
-      pub came : (new : CacheMap) → export.exporter.0 ≢ export.importer.0 → HandsOver export.exporter.0 export.importer.0 leaves.unclean leaves.clean core.caches new → ComeToImporter In export.importer core.caches new
+      pub came : (new : CacheMap) → export.exporter.0 ≢ export.importer.0 → HandsFragmentsOver export.exporter.0 export.importer.0 leaves.unclean leaves.clean core.caches new → ComeToImporter In export.importer core.caches new
       came new apart h leaf a is =
           ⊎_elim (λ there. inl ((picked_passes In unclean_in core.caches export.exporter.0 (order core.caches export.exporter.0) leaves.unclean cached.unclean leaf there.0).1, there.1))
           (λ was. stays was.0 was.1 ((holder_is regions.exports regions.roots.roots core.homes core.covers leaf (record { 0 = a.rank })).1 (divided.owned.held.cached leaf a was.1)))
@@ -85,7 +85,7 @@ module _ (core : Core) (regions : Regions) (divided : IsDivided core regions) (r
                   (λ other left. false≢true (sym other ∙ is_same x.rank export.exporter.0 (ap (λ (y : At). y.rank) (same_Some x a left) ∙ rank))) left
 
           stays : list_any (leaf_is leaf) leaves.unclean ≡ false → map.get core.caches.held leaf ≡ Some a → HasHolder regions.exports regions.roots.roots core.homes core.covers leaf (record { 0 = a.rank })
-              → (In leaf × (a.rank ≡ export.importer.0)) ⊎ ((In leaf → ⊥) × (f : Cached) × (map.get core.caches.held leaf ≡ Some (at a.rank f)))
+              → (In leaf × (a.rank ≡ export.importer.0)) ⊎ ((In leaf → ⊥) × (f : Cached) × (map.get core.caches.held leaf ≡ Some (lies_by a.rank f)))
           stays among was holder =
               ⊎_elim (λ same.
               let near : In leaf = subst (NearestRoot regions.roots.roots core.homes core.covers leaf) same holder.nearest in
@@ -127,16 +127,16 @@ module _ (core : Core) (regions : Regions) (root : Leaf) (export : StandingExpor
   from = at_root core regions root export caches homes covers these same alike
 
   abbrev Found : Option Spelled → Type 0
-  Found o = MatchOption o (HasTooMany (IsIn regions.roots.roots homes covers root) (unclean caches)) (IsSpelled (IsIn regions.roots.roots homes covers root) caches from export.importer)
+  Found o = MatchOption o (HasTooMany (IsOfRegion regions.roots.roots homes covers root) (unclean caches)) (IsSpelled (IsOfRegion regions.roots.roots homes covers root) caches from export.importer)
 
   module _ (o : Option Spelled) (found : Found o) (bytes : List ℕ) where
     -- a region that can't be sent has no bytes
     pub given_many : o ≡ None → SpellsRegion (state_of core) regions.roots.roots root export bytes → ⊥
     given_many none spells = few_sent (IsInRegionOf (state_of core) regions.roots.roots root) (unclean core.caches) from export.importer spells.export spells.handed spells.spelled.sendable
-        (of_tree core regions root export caches homes covers these same alike (λ k h cs. HasTooMany (IsIn regions.roots.roots h cs root) (unclean k)) (subst Found none found))
+        (of_tree core regions root export caches homes covers these same alike (λ k h cs. HasTooMany (IsOfRegion regions.roots.roots h cs root) (unclean k)) (subst Found none found))
 
     module _ (spelled : Spelled) (some : o ≡ Some spelled) where
-      abbrev its : IsSpelled (IsIn regions.roots.roots homes covers root) caches from export.importer spelled
+      abbrev its : IsSpelled (IsOfRegion regions.roots.roots homes covers root) caches from export.importer spelled
       its = subst Found some found
 
       its_export : IsExportOf (IsInRegionOf (state_of core) regions.roots.roots root) (unclean core.caches) from export.importer its.export
@@ -144,7 +144,7 @@ module _ (core : Core) (regions : Regions) (root : Leaf) (export : StandingExpor
 
       -- what the exporter caches of it,
       pub given_cached : AreCachedOf (IsInRegionOf (state_of core) regions.roots.roots root) core.caches export.exporter.0 spelled.leaves
-      given_cached = of_tree core regions root export caches homes covers these same alike (λ k h cs. AreCachedOf (IsIn regions.roots.roots h cs root) k export.exporter.0 spelled.leaves) its.cached
+      given_cached = of_tree core regions root export caches homes covers these same alike (λ k h cs. AreCachedOf (IsOfRegion regions.roots.roots h cs root) k export.exporter.0 spelled.leaves) its.cached
 
       -- bytes that spell what is handed over,
       pub given_spelled : spelled.bytes.items ≡ bytes → IsSpelledBy (state_of core) regions.roots.roots root export bytes (length spelled.leaves.unclean)
@@ -161,7 +161,7 @@ module _ (core : Core) (regions : Regions) (root : Leaf) (export : StandingExpor
 module _ (core new : Core) (regions : Regions) (divided : IsDivided core regions) (root : Leaf) (export : StandingExport) (stands : map.get regions.exports root ≡ Some export) (sent : export.state ≡ Sent) (apart : export.exporter.0 ≢ export.importer.0)
     (bytes : List ℕ) (leaves : RegionLeaves) (cached : AreCachedOf (IsInRegionOf (state_of core) regions.roots.roots root) core.caches export.exporter.0 leaves) (valid : AreCaches core.caches)
     (spelled : IsSpelledBy (state_of core) regions.roots.roots root export bytes (length leaves.unclean)) where
-  pub took : (result : Result (Unit {0}) Refusal) → OnOk result (HandsOver export.exporter.0 export.importer.0 leaves.unclean leaves.clean core.caches new.caches) → OnOk result (IsGivenOver leaves.unclean (state_of core) (state_of new)) → OnOk result (TakesRegion core new regions root export bytes)
+  pub took : (result : Result (Unit {0}) Refusal) → OnOk result (HandsFragmentsOver export.exporter.0 export.importer.0 leaves.unclean leaves.clean core.caches new.caches) → OnOk result (IsGivenOver leaves.unclean (state_of core) (state_of new)) → OnOk result (TakesRegion core new regions root export bytes)
   took (Err reason) h g = tt
   took (Ok done) h g = record {
     region = spelled.0;
@@ -234,7 +234,7 @@ module _ (old new : Core) (regions : Regions) (later : Standing) (root : Leaf) (
             -- whoever had a fragment holds it
             (λ leaf a is. rw (homes_stay, covers_stay) ((holder_is later regions.roots.roots old.homes old.covers leaf (record { 0 = a.rank })).0
             (⊎_elim (λ there. subst (λ (n : ℕ). HasHolder later regions.roots.roots old.homes old.covers leaf (record { 0 = n })) (sym there.1) (hands.region leaf there.0))
-            (λ was. hands.others leaf (record { 0 = a.rank }) was.0 ((holder_is regions.exports regions.roots.roots old.homes old.covers leaf (record { 0 = a.rank })).1 (divided.owned.held.cached leaf (at a.rank was.1) was.2)))
+            (λ was. hands.others leaf (record { 0 = a.rank }) was.0 ((holder_is regions.exports regions.roots.roots old.homes old.covers leaf (record { 0 = a.rank })).1 (divided.owned.held.cached leaf (lies_by a.rank was.1) was.2)))
             (takes.caches.came leaf a is))));
       };
       stand = stand_now;

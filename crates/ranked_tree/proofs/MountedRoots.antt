@@ -1,14 +1,14 @@
 -- The roots of a tree that was mounted are its own, and each rank caches what it holds: rank 0 the one leaf of a new tree, and no rank anything else.
 use Rattle.ranked_tree.proofs.Common.{AreFilled, AreTopRoots, At, CacheMap, Core, Covers, HasLeaf, IsOwned, IsSoundCore, Mounts, None, Objects, Rank, Roots, Rules, Some, State, Tree, [], ap, arith, get-empty, get_beside, is_known, is_some, leaf-exact, leaf-total, leaf_cmp, leaves_of, length, length-replicate, live_root, new_roots, no_covers, no_homes, one_value, root_fragment, root_leaf, root_live, same_map, same_or_apart, state_of, subst, sym, ℕ, ⊎_elim, ◌<◌, ◌∙◌, ◌≡◌, Leaf, none_unless}
 use Rattle.std.specs.FinMap as map
-use Rattle.subtree_map.specs.Changes.{leaf_of}
+use Rattle.subtree_map.specs.Changes.{leaf_in_dir}
 use Rattle.ranked_tree.proofs.HeldLaws.{placed_at}
 use Rattle.ranked_tree.proofs.NewLaws.{new_are_held, root_is}
 
 -- the leaves of the root directory where there was no root
 pub are_top : (covers : Covers) (none roots : Roots) → none ≡ map.empty → AreFilled none roots 1 (leaves_of covers 1) (record { 0 = 0 }) → AreTopRoots covers roots
 are_top covers none roots is filled = record {
-  ranked = λ f has. filled.absent f has (nowhere (leaf_of 1 f));
+  ranked = λ f has. filled.absent f has (nowhere (leaf_in_dir 1 f));
   alone = λ leaf some. filled.made leaf (nowhere leaf) some;
 }
   where
@@ -45,7 +45,7 @@ module _ (limit : ℕ) (objects : Objects) (ranks places : ℕ) (some : 0 < rank
           placed = placed_at (state_of c) c.caches roots sound.none none;
           ranks = λ leaf rank has.
               let at = top.alone leaf (ap is_some has) in
-              let here : leaf ≡ leaf_of 1 leaf.1 = λ i. (record { 0 = at.0 i }, leaf.1) in
+              let here : leaf ≡ leaf_in_dir 1 leaf.1 = λ i. (record { 0 = at.0 i }, leaf.1) in
               let zeroth : rank.0 ≡ 0 = ap (λ (r : Rank). r.0) (one_value (map.get roots leaf) rank (record { 0 = 0 }) has (ap (map.get roots) here ∙ top.ranked leaf.1 at.1)) in
               let many : length c.caches.used ≡ ranks = ap (λ (cs : CacheMap). length cs.used) walked.1.caches ∙ length-replicate ranks [] in
               omega (arith, zeroth, many, some);

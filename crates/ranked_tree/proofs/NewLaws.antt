@@ -1,5 +1,5 @@
 -- The one root of a new tree is its one leaf, and rank 0 holds it.
-use Rattle.ranked_tree.proofs.Common.{AreHeld, AreRoots, At, CacheMap, Core, IsLive, IsSome, Leaf, Rank, Roots, Rules, Some, State, [], ap, at, cached_root, cond_both, get-empty, get_beside, get_put, get_with_frag, is_some, itself, leaf_is, length, length-replicate, live_root, new_caches, new_none, new_roots, new_tree_state, no_caches, no_covers, no_homes, none-some, one_leaf, one_value, ranks_with_frag, refl, root_leaf, root_live, same_Some, same_or_apart, state_of, subst, sym, ℕ, ◌<◌, ◌∙◌, ◌≡◌, ⊎_elim}
+use Rattle.ranked_tree.proofs.Common.{AreHeld, AreRoots, At, CacheMap, Core, IsLive, IsSome, Leaf, Rank, Roots, Rules, Some, State, [], ap, lies_by, cached_root, cond_both, get-empty, get_beside, get_put, get_with_frag, is_some, itself, leaf_is, length, length-replicate, live_root, new_caches, new_none, new_roots, new_tree_state, no_caches, no_covers, no_homes, none-some, one_leaf, one_value, ranks_with_frag, refl, root_leaf, root_live, same_Some, same_or_apart, state_of, subst, sym, ℕ, ◌<◌, ◌∙◌, ◌≡◌, ⊎_elim}
 use Rattle.std.specs.FinMap as map
 use Rattle.ranked_tree.proofs.HeldLaws.{placed_at}
 
@@ -32,8 +32,8 @@ new_are_held core roots limit ranks places some state caches is =
     its leaf a has =
         -- nothing but the root's leaf is cached
         let w : (leaf ≡ root_leaf) × (a.rank ≡ 0) =
-        cond_both (leaf_is leaf root_leaf) (Some (at 0 cached_root)) (map.get (no_caches ranks places).held leaf) (λ o. o ≡ Some a → (leaf ≡ root_leaf) × (a.rank ≡ 0))
-        (λ one stands. (one_leaf leaf root_leaf one, sym (ap (λ (k : At). k.rank) (same_Some (at 0 cached_root) a stands)))) (λ apart stands. absurd (none-some a (sym (get-empty _ leaf) ∙ stands)))
+        cond_both (leaf_is leaf root_leaf) (Some (lies_by 0 cached_root)) (map.get (no_caches ranks places).held leaf) (λ o. o ≡ Some a → (leaf ≡ root_leaf) × (a.rank ≡ 0))
+        (λ one stands. (one_leaf leaf root_leaf one, sym (ap (λ (k : At). k.rank) (same_Some (lies_by 0 cached_root) a stands)))) (λ apart stands. absurd (none-some a (sym (get-empty _ leaf) ∙ stands)))
         (sym (get_with_frag (no_caches ranks places) 0 root_leaf cached_root leaf) ∙ has) in
         subst (λ (n : ℕ). Rules (new_tree_state limit) new_roots leaf (record { 0 = n })) (sym w.1) (subst (λ (l : Leaf). Rules (new_tree_state limit) new_roots l first_rank) (sym w.0) (record { root = root_leaf; nearest = itself root_leaf first_rank root_is; ranked = root_is }))
 

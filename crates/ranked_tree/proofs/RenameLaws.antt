@@ -1,5 +1,5 @@
 -- What a directory's move needs of the roots: it keeps its leaves, and the rank that they inherit is known at both its dentries.
-use Rattle.ranked_tree.proofs.Common.{Bool, Change, Covers, Home, Homes, IfSome, Ino, Inode, IsInheritedAt, IsLostRank, IsRightChange, IsSettled, IsSound, IsSpot, MatchBool, MatchOption, MayChange, MayMove, None, Option, Rank, Roots, Rules, SettleMoving, Shape, Some, Spot, State, Tree, add, changed, cond, cond_both, dentry_at, dir_moving, directory_at, entry_stands, false, home_at, is_dir_kind, is_directory, leaf_of, leaves_of, move, moves, refl, relocates, remove, rules, same_Some, set, shown_tree, subst, sym, taken, true, ◌≡◌, ◌≢◌}
+use Rattle.ranked_tree.proofs.Common.{Bool, Change, Covers, Home, Homes, IfSome, Ino, Inode, IsInheritedAt, IsLostRank, IsRightChange, KeepsRanksOf, IsSound, IsSpot, MatchBool, MatchOption, MayChange, MayMove, None, Option, Rank, Roots, Rules, SettleMoving, Shape, Some, Spot, State, Tree, add, changed, cond, cond_both, dentry_at, dir_moving, directory_at, entry_stands, false, home_at, is_dir_kind, is_directory, leaf_of, leaves_of, move, moves, refl, relocates, remove, rules, same_Some, set, shown_tree, subst, sym, taken, true, ◌≡◌, ◌≢◌}
 use Rattle.std.specs.FinMap as map
 use Rattle.mds_types.proofs.EntryLaws.{get_put}
 
@@ -51,7 +51,7 @@ room_still d covers now P keeps same has = search rules
 
 -- what is known of the roots of a directory, if one moved, that has the leaves of this table
 abbrev pub Settles : Option Ino → Covers → (before after : Roots) → Option Rank → Type 0
-Settles d now before after lost = (homes : Homes) (covers : Covers) (home : Home) → MatchOption d (after ≡ before) (λ (dir : Ino). leaves_of covers dir.0 ≡ leaves_of now dir.0 → MayMove homes dir.0 home → IsLostRank before homes covers dir.0 home lost → IsSettled before after homes covers dir.0 home)
+Settles d now before after lost = (homes : Homes) (covers : Covers) (home : Home) → MatchOption d (after ≡ before) (λ (dir : Ino). leaves_of covers dir.0 ≡ leaves_of now dir.0 → MayMove homes dir.0 home → IsLostRank before homes covers dir.0 home lost → KeepsRanksOf before after homes covers dir.0 home)
 
 -- and its roots are settled
 module _ (old new : State) (sound : IsSound old) (before after : Roots) (lost : Option Rank) where
@@ -65,6 +65,6 @@ module _ (old new : State) (sound : IsSound old) (before after : Roots) (lost : 
     where
       by : (b : Bool) → is_dir_kind inode.kind ≡ b → IfSome (cond b (Some inode.ino) None) (λ (dir : Ino). leaves_of old.covers dir.0 ≡ leaves_of new.covers dir.0)
           → IfSome (cond b (Some inode.ino) None) (λ (dir : Ino). IsLostRank before old.homes old.covers dir.0 (home_at (dentry_at target)) lost)
-          → Settles (cond b (Some inode.ino) None) new.covers before after lost → MatchBool b (IsSettled before after old.homes old.covers inode.ino.0 (home_at (dentry_at target))) (after ≡ before)
+          → Settles (cond b (Some inode.ino) None) new.covers before after lost → MatchBool b (KeepsRanksOf before after old.homes old.covers inode.ino.0 (home_at (dentry_at target))) (after ≡ before)
       by true kinded same is its = its old.homes old.covers (home_at (dentry_at target)) same (relocates old sound source target inode went able kinded) is
       by false kinded same is its = its old.homes old.covers (home_at (dentry_at target))

@@ -1,8 +1,8 @@
 -- What becomes of the roots and of every leaf's authority where directories come, move and go: from the table of directories alone.
-use Rattle.ranked_tree.proofs.Common.{AreGone, BecomesMerged, BecomesSplit, CanMerge, Covers, FitsSplit, Fragment, HasAuthority, HasLeaf, HaveOneAuthority, Home, Homes, Ino, IsInheritedAt, IsLive, IsMerge, IsRootMerge, IsRootSplit, IsSettled, IsSplit, IsSubtrees, IsTable, IsTree, KeepAuthority, Leaf, List, MayCome, MayGo, MayMove, NoNewRank, None, Option, Rank, Roots, Some, adopted_authority, adopted_valid, and_right, ap, arith, child_is_new, drops_soundly, cases_Bool, false, inl, is_inside, is_known, is_some, leaves_now, leaves_of, lies_inside, merges_soundly, moves_soundly, nat_lt, nat_tests, not_none, one_value, refl, some_authority, some_holder, span, splits_soundly, subst, sym, tree_of_row, true, value_of, ℕ, ⊎_elim, ◌&&◌, ◌+◌, ◌/◌, ◌==◌, ◌||◌, ◌∙◌, ◌≡◌, ◌≢◌, same_or_apart}
+use Rattle.ranked_tree.proofs.Common.{AreGone, BecomesMerged, BecomesSplit, CanMerge, Covers, FitsSplit, Fragment, HasAuthority, HasLeaf, HaveOneAuthority, Home, Homes, Ino, IsInheritedAt, IsLive, IsMerge, IsRootMerge, IsRootSplit, KeepsRanksOf, IsSplit, IsSubtrees, IsTable, IsTree, KeepAuthority, Leaf, List, MayCome, MayGo, MayMove, NoNewRank, None, Option, Rank, Roots, Some, adopted_authority, adopted_valid, and_right, ap, arith, child_is_new, drops_soundly, cases_Bool, false, inl, is_inside, is_known, is_some, leaves_now, leaves_of, lies_inside, merges_soundly, moves_soundly, nat_lt, nat_tests, not_none, one_value, refl, some_authority, some_holder, span, splits_soundly, subst, sym, tree_of_row, true, value_of, ℕ, ⊎_elim, ◌&&◌, ◌+◌, ◌/◌, ◌==◌, ◌||◌, ◌∙◌, ◌≡◌, ◌≢◌, same_or_apart}
 use Rattle.std.specs.FinMap as map
 use Rattle.sorted_map.proofs.NatKeys as nat
-use Rattle.subtree_map.specs.Changes.{leaf_of}
+use Rattle.subtree_map.specs.Changes.{leaf_in_dir}
 
 -- what every change leaves: each leaf that stood and still stands has its authority, only leaves are roots, and no root has a rank that none had
 pub record IsSoundChange (before after : Roots) (homes now : Homes) (covers later : Covers) : Type 0 where
@@ -51,7 +51,7 @@ module _ (before after : Roots) (homes : Homes) (covers : Covers) (table : IsTab
       }
 
   -- a root that was made before a move has the rank of the leaf's authority, which is that of a root
-  settled_ranks : (d : ℕ) (home : Home) → IsSettled before after homes covers d home → is_known homes home.parent.0 ≡ true → NoNewRank before after
+  settled_ranks : (d : ℕ) (home : Home) → KeepsRanksOf before after homes covers d home → is_known homes home.parent.0 ≡ true → NoNewRank before after
   settled_ranks d home settled parent leaf rank has = go (map.get before leaf) refl
     where
       go : (o : Option Rank) → map.get before leaf ≡ o → (other : Leaf) × (map.get before other ≡ Some rank)
@@ -71,7 +71,7 @@ module _ (before after : Roots) (homes : Homes) (covers : Covers) (table : IsTab
           (λ apart. absurd (not_none _ rank (settled.elsewhere leaf apart ∙ none) has)) (nat.same_or_apart leaf.0.0 d)
 
   -- a directory moves, and its roots were settled first
-  pub rehomed : (d : ℕ) (home : Home) → IsSettled before after homes covers d home → MayMove homes d home → IsSoundChange before after homes (map.insert homes d home) covers covers
+  pub rehomed : (d : ℕ) (home : Home) → KeepsRanksOf before after homes covers d home → MayMove homes d home → IsSoundChange before after homes (map.insert homes d home) covers covers
   rehomed d home settled may =
       let sound = moves_soundly before after homes covers d home settled table valid may in
       record {
@@ -84,7 +84,7 @@ module _ (before after : Roots) (homes : Homes) (covers : Covers) (table : IsTab
   module _ (d : ℕ) (f : Fragment) (nb : ℕ) (to : List Fragment) (later : Covers) (split : IsRootSplit before after d f nb) (divided : IsSplit (leaves_of covers d) to f nb) (has : HasLeaf (leaves_of covers d) f) (fits : FitsSplit f nb) (whole : IsTree to)
       (becomes : later ≡ map.insert covers d to) where
     abbrev at_f : Leaf
-    at_f = leaf_of d f
+    at_f = leaf_in_dir d f
 
     pub split_keeps : KeepAuthority before after homes homes covers later (BecomesSplit d f nb) × IsSubtrees after homes later
     split_keeps = splits_soundly before after d f nb split homes covers later to table valid divided has fits whole becomes
@@ -129,5 +129,5 @@ module _ (before after : Roots) (homes : Homes) (covers : Covers) (table : IsTab
               ⊎_elim (λ same. let found = merge.rank rank (ap (map.get after) (sym same) ∙ is) in (found.0, found.2))
               (λ apart.
               ⊎_elim (λ inside. absurd (not_none _ rank (merge.gone leaf inside) is)) (λ outside. (leaf, sym (merge.others leaf outside apart) ∙ is)) (cases_Bool (is_inside d f leaf)))
-              (same_or_apart leaf (leaf_of d f));
+              (same_or_apart leaf (leaf_in_dir d f));
         }

@@ -1,6 +1,6 @@
 -- What is known of fragments that aren't clean where a tree is divided among ranks: each has a base that a fragment may have, and lies at the
 -- rank that holds its region. What follows for Send.
-use Rattle.ranked_tree.proofs.Common.{AreAtTheirRank, At, Base, Bool, CacheMap, Cached, ComesTo, Core, Covers, Dirfrag, Export, ExportState, HasVersion, HaveVersions, Homes, IfErr, IsDivided, IsErrAnd, IsExportOf, IsIn, IsInRegionOf, IsSoundCore, IsTiedAt, Leaf, List, MayNotSend, NearestRoot, None, Omap, Option, Prepared, Refusal, RefusesSend, Regions, Result, Rules, Sends, Sent, Some, SpellsExport, SpellsPrepared, SpellsRegion, Standing, StandingExport, Subtrees, Unsaved, ap, cond, cond_both, false, get_unclean, held_in, holder_is, inr, is_clean, is_freezing, is_imported, none-some, object_of, one_value, option_map, refl, region_holder, rules, same_Some, state_of, subst, sym, true, unclean, unsaved_at, ℕ, ◌∙◌, ◌≡◌}
+use Rattle.ranked_tree.proofs.Common.{AreAtTheirRank, At, Base, Bool, CacheMap, Cached, ComesTo, Core, Covers, Dirfrag, Export, ExportState, HasVersion, HaveVersions, Homes, IfErr, IsDivided, IsErrAnd, IsExportOf, IsOfRegion, IsInRegionOf, IsSoundCore, IsTiedAt, Leaf, List, MayNotSend, NearestRoot, None, Omap, Option, Prepared, Refusal, RefusesSend, Regions, Result, Rules, Sends, Sent, Some, SpellsExport, SpellsPrepared, SpellsRegion, Standing, StandingExport, Subtrees, Unsaved, ap, cond, cond_both, false, get_unclean, held_in, holder_is, inr, is_clean, is_freezing, is_imported, none-some, object_of, one_value, option_map, refl, region_holder, rules, same_Some, state_of, subst, sym, true, unclean, unsaved_at, ℕ, ◌∙◌, ◌≡◌}
 use Rattle.std.specs.FinMap as map
 use Rattle.ranked_tree.proofs.HeldLaws.{may_hold}
 use Rattle.ranked_tree.proofs.SubtreeLaws.{over}
@@ -35,14 +35,14 @@ module _ (core : Core) (regions : Regions) (divided : IsDivided core regions) (r
   })
 
   -- and no other rank caches a leaf of it
-  pub region_here : AreAtTheirRank (IsIn regions.roots.roots core.homes core.covers root) core.caches export.exporter.0
+  pub region_here : AreAtTheirRank (IsOfRegion regions.roots.roots core.homes core.covers root) core.caches export.exporter.0
   region_here leaf some near = (may_hold (state_of core) core.caches (held_in regions) divided.owned.held leaf export.exporter (region_held leaf near)).alone
 
 -- ---- a region, over the caches and tables that a call is given
 
 module _ (core : Core) (regions : Regions) (root : Leaf) (export : StandingExport) (caches : CacheMap) (homes : Homes) (covers : Covers) (these : caches ≡ core.caches) (same : homes ≡ core.homes) (alike : covers ≡ core.covers) where
   abbrev pub AllIn : Homes → Covers → Leaf → Type 0
-  AllIn h cs leaf = IsIn regions.roots.roots h cs root leaf
+  AllIn h cs leaf = IsOfRegion regions.roots.roots h cs root leaf
 
   abbrev pub at_root : Dirfrag
   at_root = record { dir = root.0; frag = root.1; rank = export.exporter }

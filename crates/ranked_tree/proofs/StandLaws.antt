@@ -1,7 +1,7 @@
 -- What is kept of the exports that stand: by what changes neither directories nor roots, and by what changes no frozen leaf.
 use Rattle.ranked_tree.proofs.Common.{AllHave, Alters, AreFrozenRegionsKept, AreRoots, AreThawed, Begins, BeginsUnsaved, CacheMap, CameAt, Change, Core, Covers, Drops, EndsJobOf, Err, Fragment, HasAuthority, Homes, Ino, IsDivided, IsFrozen, IsFrozenIn, IsLive, IsOwned, IsSound, IsSoundCore, Job, Jobs, KeepsAuthorities, KeepsHolders, Leaf, List, Makes, NearestRoot, NoNewRank, None, Ok, Option, Rank, Refusal, Regions, Result, Roots, Shape, Some, StandSoundly, Standing, StandingExport, Subtrees, Unsaved, UsedAt, add, ap, came_weaker, cond_both, dentry_at, get-empty, get_beside, get_holding, get_left, get_removed, get_without, held_in, holder_is, holder_or, holding, imported_freezes, is_dir_kind, is_imported, keep_frozen, keep_holders, leaf-exact, leaf-total, leaf_cmp, leaf_is, length, list_any, move, none-some, option_map, refl, region_holder, remove, rules, same_Some, same_map, same_or_apart, set, state_of, subst, sym, unclean, with_directory, without_gone_dir, without_leaves, ℕ, ⊎_elim, ◌<◌, ◌∙◌, ◌≡◌, State}
 use Rattle.std.specs.FinMap as map
-use Rattle.mdcache.specs.Commits.{leaf_of}
+use Rattle.mdcache.specs.Commits.{leaf_of_job}
 use Rattle.ranked_tree.proofs.HeldLaws.{held_after}
 
 -- ---- jobs
@@ -150,8 +150,8 @@ module _ (old new : Core) (regions : Regions) (divided : IsDivided old regions) 
       go None made b = same_jobs (state_of old) (state_of new) (ap (λ (s : State). s.jobs) b.1) leaf job is
       go (Some u) None b = absurd b
       go (Some u) (Some made) b =
-          ⊎_elim (λ same. absurd (thawed (subst (λ (l : Leaf). IsFrozenIn (state_of old) regions l) (same ∙ ap leaf_of b.0) frozen)))
-          (λ apart. sym (get_beside old.jobs (leaf_of made) made leaf apart) ∙ ap (λ (s : State). map.get s.jobs leaf) (sym b.2) ∙ is) (same_or_apart leaf (leaf_of made))
+          ⊎_elim (λ same. absurd (thawed (subst (λ (l : Leaf). IsFrozenIn (state_of old) regions l) (same ∙ ap leaf_of_job b.0) frozen)))
+          (λ apart. sym (get_beside old.jobs (leaf_of_job made) made leaf apart) ∙ ap (λ (s : State). map.get s.jobs leaf) (sym b.2) ∙ is) (same_or_apart leaf (leaf_of_job made))
 
   pub divided_begun : (result : Result (Option Job) Refusal) → Begins (state_of old) (state_of new) at result → new.homes ≡ old.homes → new.covers ≡ old.covers → IsDivided new regions
   divided_begun result begins homes covers = record {

@@ -1,5 +1,5 @@
 -- What a change of the tree makes of the roots, and of every leaf's authority.
-use Rattle.ranked_tree.proofs.Common.{AreRoots, Bool, Change, Covers, Dentry, FollowChange, Fragment, GivesToChildren, HasAuthority, HaveOneAuthority, Homes, IfSome, Ino, Inode, IsMergedInto, IsRootMerge, IsRootSplit, IsSettled, IsSound, IsSplitInto, IsSubtrees, IsTable, LoseDirectory, Makes, MatchBool, MayChange, MayGo, MayMove, None, Option, Roots, SettleMove, Shape, Some, State, TakesOver, add, ap, dentry_at, dir_or_not, false, home_at, inr, is_dir_kind, may_come, may_go, move, moved_home, moved_known, refl, relocates, remove, replaces, rows_but, set, shown_tree, subst, sym, true, with_dir, with_file, with_home, ℕ, ⊎_elim, ◌∙◌, ◌≡◌}
+use Rattle.ranked_tree.proofs.Common.{AreRoots, Bool, Change, Covers, Dentry, FollowChange, Fragment, GivesToChildren, HasAuthority, HaveOneAuthority, Homes, IfSome, Ino, Inode, IsMergedInto, IsRootMerge, IsRootSplit, KeepsRanksOf, IsSound, IsSplitInto, IsSubtrees, IsTable, LoseDirectory, Makes, MatchBool, MayChange, MayGo, MayMove, None, Option, Roots, SettleMove, Shape, Some, State, TakesOver, add, ap, dentry_at, dir_or_not, false, home_at, inr, is_dir_kind, may_come, may_go, move, moved_home, moved_known, refl, relocates, remove, replaces, rows_but, set, shown_tree, subst, sym, true, with_dir, with_file, with_home, ℕ, ⊎_elim, ◌∙◌, ◌≡◌}
 use Rattle.ranked_tree.proofs.ChangedTables.{added_tables, grown_tables, moved_tables, removed_tables, set_tables}
 use Rattle.ranked_tree.proofs.RootLaws.{IsSoundChange, split_keeps, divided_soundly, grown, lost, merge_keeps, merged_soundly, rehomed, sound_on, unchanged}
 
@@ -14,7 +14,7 @@ module _ (old : State) (before settled : Roots) (to : Dentry) (inode : Inode) (s
   pub moves : SettleMove old before settled to inode → IsSoundChange before settled old.homes (with_home old.homes to inode) old.covers old.covers
   moves settles = go (is_dir_kind inode.kind) refl settles
     where
-      go : (b : Bool) → is_dir_kind inode.kind ≡ b → MatchBool b (IsSettled before settled old.homes old.covers inode.ino.0 (home_at to)) (settled ≡ before) → IsSoundChange before settled old.homes (with_home old.homes to inode) old.covers old.covers
+      go : (b : Bool) → is_dir_kind inode.kind ≡ b → MatchBool b (KeepsRanksOf before settled old.homes old.covers inode.ino.0 (home_at to)) (settled ≡ before) → IsSoundChange before settled old.homes (with_home old.homes to inode) old.covers old.covers
       go true kinded its = rw (with_dir old.homes to inode kinded) (rehomed before settled old.homes old.covers sound.table valid inode.ino.0 (home_at to) its (may kinded))
       go false kinded same = rw (with_file old.homes to inode kinded) (unchanged before settled old.homes old.covers sound.table valid same)
 

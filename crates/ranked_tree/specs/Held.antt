@@ -13,7 +13,7 @@ use Rattle.mds_types.specs.Shape.{Shape, Looks, Lists, Makes, Sets, Unlinks, Rem
 use Rattle.mds_types.specs.Tree.{Tree, is_dir_kind, is_directory}
 use Rattle.fragtree.specs.FragTree.{leaves_inside}
 use Rattle.inode_table.specs.Dirs.{Covers, IsLive, is_known, leaves_of}
-use Rattle.namespace_ops.specs.Changes.{IsLeafAt, LieHeld, adds, dentry_at, in_directory}
+use Rattle.namespace_ops.specs.Changes.{IsDentryLeaf, LieHeld, adds, dentry_at, in_directory}
 use Rattle.mds_types.specs.declared.inodes.Inode.{Inode}
 use Rattle.namespace_ops.specs.declared.plans.Change.{Change}
 use Rattle.namespace_ops.specs.declared.plans.Spot.{Spot}
@@ -85,7 +85,7 @@ pub record ComesAt (tree : TreeState) (roots : Roots) (dentry : Dentry) (ino : I
   pub first : leaf ≡ first_leaf ino
   pub unknown : is_known tree.homes ino.0 ≡ false
   pub frag : Fragment
-  pub picked : IsLeafAt tree.covers dentry frag
+  pub picked : IsDentryLeaf tree.covers dentry frag
   pub held : Rules tree roots (dentry.dir, frag) (record { 0 = rank })
 
 -- that of the directory that a change makes

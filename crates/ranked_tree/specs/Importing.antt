@@ -9,8 +9,8 @@ use Rattle.mds_types.specs.declared.refusals.Refusal.{Refusal}
 use Rattle.mds_types.specs.declared.refusals.Refusal.TheVariants.{Damaged, NoMemory, NothingToEvict, WrongExportState}
 use Rattle.cached_frag.specs.Cached.{Cached}
 use Rattle.dentry_cache.specs.Cache.{Unsaved}
-use Rattle.dentry_cache.specs.CacheMap.{At, CacheMap, at}
-use Rattle.dentry_cache.specs.Handing.{HandsOver, WantsPlace}
+use Rattle.dentry_cache.specs.CacheMap.{At, CacheMap, lies_by}
+use Rattle.dentry_cache.specs.Handing.{HandsFragmentsOver, WantsPlace}
 use Rattle.export_regions.specs.Regions.{AreCachedOf, RegionLeaves}
 use Rattle.export_steps.specs.declared.exports.ExportState.TheVariants.{Imported, Sent}
 use Rattle.export_steps.specs.declared.exports.StandingExport.{StandingExport}
@@ -37,14 +37,14 @@ pub record IsRenewed (In : Leaf → Type 0) (old new : TreeState) : Type 0 where
 abbrev pub ComeToImporter : (In : Leaf → Type 0) → Rank → (old new : CacheMap) → Type 0
 ComeToImporter In importer old new =
     (leaf : Leaf) (a : At) → map.get new.held leaf ≡ Some a → (In leaf × (a.rank ≡ importer.0))
-    ⊎ ((In leaf → ⊥) × (f : Cached) × (map.get old.held leaf ≡ Some (at a.rank f)))
+    ⊎ ((In leaf → ⊥) × (f : Cached) × (map.get old.held leaf ≡ Some (lies_by a.rank f)))
 
 -- what the exporter caches of a region goes to the importer: each fragment that isn't clean is there, and those that
 -- are clean are cached no more
 pub record HandsRegion (In : Leaf → Type 0) (export : StandingExport) (old new : CacheMap) : Type 0 where
   pub leaves : RegionLeaves
   pub cached : AreCachedOf In old export.exporter.0 leaves
-  pub handed : HandsOver export.exporter.0 export.importer.0 leaves.unclean leaves.clean old new
+  pub handed : HandsFragmentsOver export.exporter.0 export.importer.0 leaves.unclean leaves.clean old new
   pub came : ComeToImporter In export.importer old new
 
 -- where a region isn't taken the caches stay, but that for want of memory clean fragments of the importer may have gone

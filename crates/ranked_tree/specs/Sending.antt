@@ -5,7 +5,7 @@ use Rattle.mds_types.specs.declared.refusals.Refusal.{Refusal}
 use Rattle.mds_types.specs.declared.refusals.Refusal.TheVariants.{WrongExportState}
 use Rattle.export_bytes.specs.declared.exports.Export.{Export}
 use Rattle.export_bytes.specs.Export.{SpellsExport}
-use Rattle.export_regions.specs.Regions.{IsExportOf, IsIn}
+use Rattle.export_regions.specs.Regions.{IsExportOf, IsOfRegion}
 use Rattle.export_regions.specs.Sending.{MayNotSend}
 use Rattle.export_steps.specs.declared.exports.ExportState.TheVariants.{Prepared, Sent}
 use Rattle.export_steps.specs.declared.exports.StandingExport.{StandingExport}
@@ -17,7 +17,7 @@ use Rattle.ranked_tree.specs.Ranked.{Ranked}
 
 -- a leaf is in the region of a root
 abbrev pub IsInRegionOf : TreeState → Roots → (root leaf : Leaf) → Type 0
-IsInRegionOf tree roots root leaf = IsIn roots tree.homes tree.covers root leaf
+IsInRegionOf tree roots root leaf = IsOfRegion roots tree.homes tree.covers root leaf
 
 -- bytes spell what an export of a root's region hands over: each fragment of the region that isn't clean, and no other,
 -- from exporter to importer

@@ -20,7 +20,7 @@ use Rattle.export_steps.specs.Holder.{holding}
 use Rattle.export_steps.specs.Standing.{Standing}
 use Rattle.subtree_map.specs.Authority.{HasAuthority, IsSubtrees, Leaf, NearestRoot, Roots}
 use Rattle.subtree_map.specs.Changes.{AreGone, is_inside}
-use Rattle.subtree_map.specs.Moves.{IsSettled}
+use Rattle.subtree_map.specs.Moves.{KeepsRanksOf}
 use Rattle.mdcache.specs.State.{State as TreeState}
 
 -- the authority of a leaf in a tree with these roots
@@ -68,7 +68,7 @@ LoseDirectory before after (Some dir) = AreGone before after dir.0
 -- the one that they have
 abbrev pub SettleMove : TreeState → (before after : Roots) → Dentry → Inode → Type 0
 SettleMove tree before after to inode =
-    MatchBool (is_dir_kind inode.kind) (IsSettled before after tree.homes tree.covers inode.ino.0 (home_at to))
+    MatchBool (is_dir_kind inode.kind) (KeepsRanksOf before after tree.homes tree.covers inode.ino.0 (home_at to))
     (after ≡ before)
 
 -- before a change the roots of a directory that it moves are settled

@@ -12,7 +12,7 @@ ghost use Rattle.inode_table.specs.TreeTable.{home_at};
 ghost use Rattle.namespace_ops.specs.declared.plans.Spot.{Spot as Place};
 ghost use Rattle.namespace_ops.specs.Changes.{IsNumbered, MayChange, dentry_at, fragments_of};
 ghost use Rattle.subtree_map.specs.Authority.{Leaf};
-ghost use Rattle.subtree_map.specs.Moves.{IsLostRank, IsSettled};
+ghost use Rattle.subtree_map.specs.Moves.{IsLostRank, KeepsRanksOf};
 ghost use Rattle.mdcache.specs.Core.{state_of};
 ghost use Rattle.mdcache.specs.Frags.{dir_moving};
 ghost use Rattle.mdcache.specs.Shown.{shown_tree};
@@ -164,7 +164,7 @@ fn settle(dirs: &Dirs, roots: &mut Subtrees, moves: Option<Ino>, lost: Option<Ra
         → MatchOption moves (roots.new.roots ≡ roots.old.roots)
         (λ dir. leaves_of covers dir.0 ≡ leaves_of dirs.now.trees dir.0 → MayMove homes dir.0 home
         → IsLostRank roots.old.roots homes covers dir.0 home lost
-        → IsSettled roots.old.roots roots.new.roots homes covers dir.0 home) }
+        → KeepsRanksOf roots.old.roots roots.new.roots homes covers dir.0 home) }
     ensures promises { roots.new.promises ≡ roots.old.promises }
 {
     if let Some(dir) = moves {

@@ -7,7 +7,7 @@ ghost use Rattle.std.specs.Result.{result_err};
 ghost use Rattle.mds_types.specs.declared.refusals.Refusal.TheVariants.{NothingToEvict};
 ghost use Rattle.dentry_cache.specs.CacheMap.{evicted};
 ghost use Rattle.mdcache.specs.Core.{state_of};
-ghost use Rattle.mdcache.specs.Commits.{Begins, Drops, EndsJobOf, leaf_of as job_leaf};
+ghost use Rattle.mdcache.specs.Commits.{Begins, Drops, EndsJobOf, leaf_of_job};
 ghost use Rattle.mdcache.specs.Frags.{KeepsState};
 ghost use Rattle.mdcache.specs.Objects.{Purges, SavesTree};
 ghost use Rattle.ranked_tree.specs.Subtrees.{HoldsAt, Rules};
@@ -46,8 +46,8 @@ impl<S: Store + Drop> RankedTree<S> {
     pub fn end(&mut self, alloc: Global, encoded: &Encoded) -> Result<(), Refusal>
         ensures ended { EndsJobOf (state_of self.old.tree)
             (state_of self.new.tree) self.old.tree.faults self.new.tree.faults encoded.now.job result }
-        ensures came { UsesAt (Rules (state_of self.old.tree) (held_roots self.old) (job_leaf encoded.now.job))
-            (job_leaf encoded.now.job) self.old.tree.caches self.new.tree.caches }
+        ensures came { UsesAt (Rules (state_of self.old.tree) (held_roots self.old) (leaf_of_job encoded.now.job))
+            (leaf_of_job encoded.now.job) self.old.tree.caches self.new.tree.caches }
         ensures roots { self.new.subtrees ≡ self.old.subtrees }
         ensures exports { self.new.exports ≡ self.old.exports }
         ensures count { length self.new.tree.caches.used ≡ length self.old.tree.caches.used }
@@ -144,8 +144,8 @@ fn end<S: Store + Drop>(
     requires divided { IsDivided tree.old regions.now }
     ensures ended { EndsJobOf (state_of tree.old)
         (state_of tree.new) tree.old.faults tree.new.faults encoded.now.job result }
-    ensures came { UsesAt (Rules (state_of tree.old) (held_in regions.now) (job_leaf encoded.now.job))
-        (job_leaf encoded.now.job) tree.old.caches tree.new.caches }
+    ensures came { UsesAt (Rules (state_of tree.old) (held_in regions.now) (leaf_of_job encoded.now.job))
+        (leaf_of_job encoded.now.job) tree.old.caches tree.new.caches }
     ensures count { length tree.new.caches.used ≡ length tree.old.caches.used }
     ensures cap { tree.new.caches.cap ≡ tree.old.caches.cap }
     ensures counted { tree.new.faults ≡ tree.old.faults + faults_told (result_err result) }

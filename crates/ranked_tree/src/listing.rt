@@ -8,7 +8,7 @@ ghost use Rattle.mds_types.specs.Step.{names_after};
 ghost use Rattle.mds_types.specs.Tree.{is_directory};
 ghost use Rattle.objstore.specs.Omap.{key_cmp};
 ghost use Rattle.sorted_map.specs.Places.{puts};
-ghost use Rattle.cached_frag.specs.Rows.{Row, rows_after};
+ghost use Rattle.cached_frag.specs.Rows.{NamedInode, rows_after};
 ghost use Rattle.inode_table.specs.Dirs.{IsLive, is_known, leaves_of};
 ghost use Rattle.dentry_cache.specs.CacheMap.{unclean};
 ghost use Rattle.mdcache.specs.Frags.{KeepsState};
@@ -71,7 +71,7 @@ fn gather_leaves<S: Store + Drop>(
 ) -> Result<(), Refusal>
     requires known { is_known tree.old.homes dir.0 ≡ true }
     requires owned { IsOwned tree.old (held_in regions.now) }
-    ensures page { (whole : List Row) → IsPageOf whole page.old
+    ensures page { (whole : List NamedInode) → IsPageOf whole page.old
         → OnOk result (IsPageOf (rows_gathered (λ (f : Fragment). names_of (unclean tree.old.caches) tree.old.objects
         (dir, f)) (option_copied after.entry) whole (leaves_of tree.old.covers dir.0)) page.new) }
     ensures most { page.new.most ≡ page.old.most }
@@ -102,7 +102,7 @@ fn gather_leaf<S: Store + Drop>(
 ) -> Result<(), Refusal>
     requires live { IsLive tree.old.homes tree.old.covers leaf }
     requires owned { IsOwned tree.old (held_in regions.now) }
-    ensures page { (whole : List Row) → IsPageOf whole page.old
+    ensures page { (whole : List NamedInode) → IsPageOf whole page.old
         → OnOk result (IsPageOf (puts key_cmp whole (rows_after (option_copied after.entry)
         (map.entries (names_of (unclean tree.old.caches) tree.old.objects leaf)))) page.new) }
     ensures most { page.new.most ≡ page.old.most }

@@ -1,5 +1,5 @@
 -- What is written of a reply is read again.
-use Rattle.reply_codec.proofs.Common.{Bool, Decides, Decides-and, Decides-like, Decides-ltb, Dir, Done, Entries, Entry, Errno, File, Fit, HasRank, HasTarget, Inode, InodeFields, IsInode, IsListed, IsName, IsReply, IsTarget, Kind, List, None, Option, Rank, Reply, Some, Symlink, Target, ap, append_assoc, arith, byte_at, bytes_at, cond, counted_at, counted_bytes, drop_at, eqb, false, fields_bytes, flat_map, get_or, inode_from, inode_numbers, inode_widths, is_name, is_target, kind_byte, kind_from, le-ltb, leb, length, length-append, list_at, listed_bytes, little_bytes, ltb, mode_from, more_byte, more_of, name_decides, nat_tests, number_again, number_at, numbers_again, numbers_at, pin_from, pin_number, plain_fields, refl, reply_bytes, said_at, take_at, target_of, true, ℕ, ◌++◌, ◌+◌, ◌-◌, ◌<◌, ◌>>=◌, ◌^◌, ◌∙◌, ◌∷◌, ◌≡◌, ◌≤◌}
+use Rattle.reply_codec.proofs.Common.{Bool, Decides, Decides-and, Decides-like, Decides-ltb, Dir, Done, Entries, Entry, Errno, File, Fit, HasRank, HasTarget, Inode, InodeFields, IsInode, IsListed, IsName, IsReply, IsTarget, Kind, List, None, Option, Rank, Reply, Some, Symlink, Target, ap, append_assoc, arith, byte_at, bytes_at, cond, counted_at, counted_bytes, drop_at, eqb, false, fields_bytes, flat_map, get_or, inode_from, inode_numbers, inode_widths, is_name, is_target, kind_byte, kind_from, le-ltb, leb, length, length-append, list_at, listed_bytes, little_bytes, ltb, mode_from, more_byte, more_of, name_decides, nat_tests, number_again, number_at, numbers_again, numbers_at, pin_from, pin_number, plain_fields, refl, reply_bytes, said_at, take_at, target_bytes, true, ℕ, ◌++◌, ◌+◌, ◌-◌, ◌<◌, ◌>>=◌, ◌^◌, ◌∙◌, ◌∷◌, ◌≡◌, ◌≤◌}
 use Rattle.reply_codec.specs.ReplyBytes.{plain_bytes}
 use Rattle.reply_codec.specs.Reading.{listing_at, found_at, errno_at, plain_fields_at, plain_inode_at, inode_said, link_at, listed_at, entry_name_at, reply_at, target_at}
 use Rattle.reply_codec.proofs.Items.{Listed, list_again}
@@ -45,7 +45,7 @@ pin_small : (pin : Option Rank) → HasRank pin → pin_number pin < 256 ^ 2
 pin_small None h = omega arith
 pin_small (Some rank) h = omega (arith, h)
 
-target_short : (kind : Kind) → HasTarget kind → length (target_of kind) < 256 ^ 2
+target_short : (kind : Kind) → HasTarget kind → length (target_bytes kind) < 256 ^ 2
 target_short File h = omega arith
 target_short Dir h = omega arith
 target_short (Symlink target) h = omega (arith, h.short)
@@ -56,19 +56,19 @@ fit inode is =
     (kind_small inode.kind, (omega (arith, is.number), (omega (arith, is.widths.size), (omega (arith, is.widths.mtime), (omega (arith, is.widths.uid), (omega (arith, is.widths.gid), (omega (arith, is.mode), (pin_small inode.pin is.pin, (target_short inode.kind is.target, tt)))))))))
 
 abbrev pub fields_for : Inode → InodeFields
-fields_for inode = plain_fields (inode_numbers inode) (target_of inode.kind)
+fields_for inode = plain_fields (inode_numbers inode) (target_bytes inode.kind)
 
 fields_again : (inode : Inode) (rest : List ℕ) → IsInode inode → plain_fields_at (plain_bytes inode ++ rest) ≡ Some (fields_for inode, rest)
 unfolding plain_fields_at plain_bytes
 fields_again inode rest is =
     let numbers = inode_numbers inode in
-    let target = target_of inode.kind in
+    let target = target_bytes inode.kind in
     let K : Option (List ℕ × List ℕ) → Option (InodeFields × List ℕ) = λ r. r >>= λ n. bytes_at (get_or n.0 8 0) n.1 >>= λ t. Some (plain_fields n.0 t.0, t.1) in
     ap (λ (t : List ℕ). K (numbers_at inode_widths t)) (append_assoc (fields_bytes inode_widths numbers) target rest)
     ∙ ap K (numbers_again inode_widths numbers (target ++ rest) (fit inode is))
     ∙ ap (λ (r : Option (List ℕ × List ℕ)). r >>= λ t. Some (plain_fields numbers t.0, t.1)) (part_again target rest)
 
-kind_again : (kind : Kind) → HasTarget kind → kind_from (kind_byte kind) (target_of kind) ≡ Some kind
+kind_again : (kind : Kind) → HasTarget kind → kind_from (kind_byte kind) (target_bytes kind) ≡ Some kind
 kind_again File h = refl
 kind_again Dir h = refl
 kind_again (Symlink target) h = ap (λ (b : Bool). cond b (Some (Symlink target)) None) ((target_decides target).1 h)

@@ -4,8 +4,8 @@ pub use Rattle.dirfrag_codec.proofs.FieldLaws.{AreWidths, Fit, numbers_again, nu
 pub use Rattle.dirfrag_codec.proofs.Front.{IsWidth, IsBytes, IsBytes-drop, Takes, Takes-then, bind_some, byte_takes, guard_not, number_again, number_takes, width_1, width_2, width_4, width_8}
 pub use Rattle.dirfrag_codec.proofs.ValueLaws.{guarded, name_decides, one_reading}
 pub use Rattle.dirfrag_codec.proofs.RecordLaws.{on_err, widths_decides}
-pub use Rattle.dirfrag_codec.specs.EntryRecord.{HasTarget, HasWidths, fields_bytes, kind_byte, target_of}
-pub use Rattle.dirfrag_codec.specs.Grammar.{Decodes, HasOneMeaning, NothingFollows, Reads}
+pub use Rattle.dirfrag_codec.specs.EntryRecord.{HasTarget, HasWidths, fields_bytes, kind_byte, target_bytes}
+pub use Rattle.dirfrag_codec.specs.Grammar.{Decodes, HasOneMeaning, NothingFollows, IsReaderOf}
 pub use Rattle.dirfrag_codec.specs.Reading.{byte_at, number_at, numbers_at, ◌>>=◌}
 pub use Rattle.dirfrag_codec.specs.Values.{is_name}
 pub use Rattle.mds_types.specs.Name.{IsName, IsTarget, fits_target}

@@ -1,5 +1,5 @@
 -- What is read of a reply is what its bytes spell.
-use Rattle.reply_codec.proofs.Common.{AllByRecursion, AreWidths, Bool, Dir, Done, Entries, Entry, Errno, File, Fit, HasRank, HasTarget, Inode, InodeFields, IsBytes, IsBytes-drop, IsInode, IsListed, IsName, IsReply, IsTarget, IsWidth, Kind, List, None, Option, Rank, Reply, Some, Symlink, Takes, Takes-then, Target, [], ap, arith, bind_some, byte_at, byte_takes, bytes_at, cond, cond_some, counted_at, counted_bytes, drop, eqb, eqb-true, false, fields_bytes, flat_map, get_or, guard_not, inode_from, inode_numbers, inode_widths, is_name, is_target, kind_byte, kind_from, leb, length, length-take, list_at, listed_bytes, little_bytes, ltb, ltb-false, mode_from, more_byte, more_of, name_decides, nat_tests, nil_from_length, number_at, number_takes, numbers_are, numbers_at, numbers_take, pin_from, pin_number, plain_fields, refl, reply_bytes, said_at, same_Some, subst, sym, take, take-append-drop, target_of, true, width_1, width_2, width_4, width_8, ℕ, ◌++◌, ◌+◌, ◌-◌, ◌<◌, ◌>>=◌, ◌^◌, ◌∙◌, ◌∷◌, ◌≡◌, ◌≤◌}
+use Rattle.reply_codec.proofs.Common.{AllByRecursion, AreWidths, Bool, Dir, Done, Entries, Entry, Errno, File, Fit, HasRank, HasTarget, Inode, InodeFields, IsBytes, IsBytes-drop, IsInode, IsListed, IsName, IsReply, IsTarget, IsWidth, Kind, List, None, Option, Rank, Reply, Some, Symlink, Takes, Takes-then, Target, [], ap, arith, bind_some, byte_at, byte_takes, bytes_at, cond, cond_some, counted_at, counted_bytes, drop, eqb, eqb-true, false, fields_bytes, flat_map, get_or, guard_not, inode_from, inode_numbers, inode_widths, is_name, is_target, kind_byte, kind_from, leb, length, length-take, list_at, listed_bytes, little_bytes, ltb, ltb-false, mode_from, more_byte, more_of, name_decides, nat_tests, nil_from_length, number_at, number_takes, numbers_are, numbers_at, numbers_take, pin_from, pin_number, plain_fields, refl, reply_bytes, said_at, same_Some, subst, sym, take, take-append-drop, target_bytes, true, width_1, width_2, width_4, width_8, ℕ, ◌++◌, ◌+◌, ◌-◌, ◌<◌, ◌>>=◌, ◌^◌, ◌∙◌, ◌∷◌, ◌≡◌, ◌≤◌}
 use Rattle.reply_codec.specs.ReplyBytes.{plain_bytes}
 use Rattle.reply_codec.specs.Reading.{listing_at, found_at, errno_at, plain_fields_at, plain_inode_at, inode_said, link_at, listed_at, entry_name_at, reply_at, target_at}
 use Rattle.reply_codec.proofs.Again.{target_decides}
@@ -61,7 +61,7 @@ pin_takes number pin e = go (eqb number 0) (leb number 256) refl refl e
 record KindTaken (byte : ℕ) (target : List ℕ) (kind : Kind) : Type 0 where
   known : HasTarget kind
   byte_is : kind_byte kind ≡ byte
-  target_is : target_of kind ≡ target
+  target_is : target_bytes kind ≡ target
 
 kind_takes : (byte : ℕ) (target : List ℕ) (kind : Kind) → kind_from byte target ≡ Some kind → KindTaken byte target kind
 kind_takes byte target kind e = go (eqb byte 3) (is_target target) (eqb (length target) 0) (eqb byte 1) (eqb byte 2) refl refl refl refl refl e
@@ -130,7 +130,7 @@ inode_of_takes f inode e =
 
 -- numbers that were read are those of the inode that was made of them
 numbers_same : (n target : List ℕ) (mode : ℕ) (pin : Option Rank) (kind : Kind) → Fit inode_widths n → length target ≡ get_or n 8 0 → mode ≡ get_or n 6 0 → pin_number pin ≡ get_or n 7 0
-    → kind_byte kind ≡ get_or n 0 0 → target_of kind ≡ target → n ≡ inode_numbers (inode_from (plain_fields n target) mode pin kind)
+    → kind_byte kind ≡ get_or n 0 0 → target_bytes kind ≡ target → n ≡ inode_numbers (inode_from (plain_fields n target) mode pin kind)
 numbers_same n target mode pin kind fit len mode_is pin_is kind_is target_is =
     numbers_are inode_widths n fit
     ∙ (λ i. sym kind_is i ∷ get_or n 1 0 ∷ get_or n 2 0 ∷ get_or n 3 0 ∷ get_or n 4 0 ∷ get_or n 5 0 ∷ sym mode_is i ∷ sym pin_is i ∷ (sym len ∙ ap (λ (t : List ℕ). length t) (sym target_is)) i ∷ [])

@@ -1,5 +1,5 @@
 -- The function that reads gives a reply exactly where the bytes spell it.
-use Rattle.reply_codec.proofs.Common.{AllByRecursion, Decides, Decides-and, Decides-like, Decides-ltb, Decodes, Dir, Done, Entries, Entry, Errno, File, HasRank, HasTarget, Inode, IsInode, IsListed, IsReply, Kind, List, None, Option, Rank, Reads, Reply, Some, SpellsReply, Symlink, Target, [], ap, bytes_eq-Decides, first_reply, guarded, has_rank, is_inode, is_kind, is_listed, is_typed, is_reply_in, length, list_all, name_decides, one_reading, refl, reply_bytes, widths_decides, ℕ, ◌>>=◌, ◌^◌, ◌∷◌, ◌≡◌}
+use Rattle.reply_codec.proofs.Common.{AllByRecursion, Decides, Decides-and, Decides-like, Decides-ltb, Decodes, Dir, Done, Entries, Entry, Errno, File, HasRank, HasTarget, Inode, IsInode, IsListed, IsReply, Kind, List, None, Option, Rank, IsReaderOf, Reply, Some, SpellsReply, Symlink, Target, [], ap, bytes_eq-Decides, first_reply, guarded, has_rank, is_inode, is_kind, is_listed, is_typed, is_reply_in, length, list_all, name_decides, one_reading, refl, reply_bytes, widths_decides, ℕ, ◌>>=◌, ◌^◌, ◌∷◌, ◌≡◌}
 use Rattle.reply_codec.specs.Values.{reply_from}
 use Rattle.reply_codec.proofs.Again.{le_decides, target_decides}
 use Rattle.reply_codec.proofs.Items.{Listed}
@@ -39,7 +39,7 @@ reply_decides bytes reply = Decides-like _ (λ p. record { typed = p.0; spelled 
 first_alone : (bytes : List ℕ) (reply : Reply) → SpellsReply bytes reply → first_reply bytes ≡ Some reply
 first_alone bytes reply s = ap (λ (r : Option (Reply × List ℕ)). r >>= λ read. Some read.0) (reply_alone bytes reply s)
 
-pub reads_reply : Reads SpellsReply reply_from
+pub reads_reply : IsReaderOf SpellsReply reply_from
 unfolding reply_from
 reads_reply bytes = guarded SpellsReply bytes (first_reply bytes) (is_reply_in bytes) (reply_decides bytes) (first_alone bytes)
 

@@ -7,7 +7,7 @@ use Rattle.mds_types.specs.declared.ids.Rank.{Rank}
 use Rattle.mds_types.specs.declared.inodes.Inode.{Inode}
 use Rattle.mds_types.specs.declared.replies.Reply.{Reply}
 use Rattle.mds_types.specs.declared.replies.Reply.TheVariants.{Entry, Entries, Target, Done, Errno}
-use Rattle.dirfrag_codec.specs.EntryRecord.{HasTarget, HasWidths, fields_bytes, kind_byte, target_of}
+use Rattle.dirfrag_codec.specs.EntryRecord.{HasTarget, HasWidths, fields_bytes, kind_byte, target_bytes}
 
 -- ---- what holds of every reply, by its type
 
@@ -52,14 +52,14 @@ pin_number (Some rank) = rank.0 + 1
 abbrev pub inode_numbers : Inode → List ℕ
 inode_numbers inode =
     kind_byte inode.kind ∷ inode.ino.0 ∷ inode.size ∷ inode.mtime ∷ inode.uid ∷ inode.gid ∷ inode.mode
-    ∷ pin_number inode.pin ∷ length (target_of inode.kind) ∷ []
+    ∷ pin_number inode.pin ∷ length (target_bytes inode.kind) ∷ []
 
 abbrev pub inode_widths : List ℕ
 inode_widths = 1 ∷ 8 ∷ 8 ∷ 8 ∷ 4 ∷ 4 ∷ 2 ∷ 2 ∷ 2 ∷ []
 
 -- an inode: its numbers, and the target of a link
 unfoldable pub plain_bytes : Inode → List ℕ
-plain_bytes inode = fields_bytes inode_widths (inode_numbers inode) ++ target_of inode.kind
+plain_bytes inode = fields_bytes inode_widths (inode_numbers inode) ++ target_bytes inode.kind
 
 -- bytes behind their number, which has so many bytes
 abbrev pub counted_bytes : ℕ → List ℕ → List ℕ

@@ -1,5 +1,5 @@
 //! The law of the format. A law is its contract: its body does nothing.
-ghost use Rattle.dirfrag_codec.specs.Grammar.{HasOneMeaning, HasOneSpelling, NothingFollows, Reads};
+ghost use Rattle.dirfrag_codec.specs.Grammar.{HasOneMeaning, HasOneSpelling, NothingFollows, IsReaderOf};
 ghost use Rattle.reply_codec.specs.ReplyBytes.{SpellsReply};
 ghost use Rattle.reply_codec.specs.Values.{reply_from};
 
@@ -9,5 +9,5 @@ pub fn replies_are_spelled_once()
     ensures meaning { HasOneMeaning SpellsReply }
     ensures spelling { HasOneSpelling SpellsReply }
     ensures ended { NothingFollows SpellsReply }
-    ensures value { Reads SpellsReply reply_from }
+    ensures value { IsReaderOf SpellsReply reply_from }
 {}

@@ -3,7 +3,7 @@ ghost use Rattle.std.specs.Prelude.{◌≡◌, ◌++◌, ◌∷◌, ◌≤◌, �
 ghost use Rattle.std.specs.List.{flat_map, AllByRecursion};
 ghost use Rattle.byteorder.specs.Endian.{little_bytes};
 ghost use Rattle.mds_types.specs.Name.{IsTarget};
-ghost use Rattle.dirfrag_codec.specs.EntryRecord.{HasTarget, kind_byte, target_of};
+ghost use Rattle.dirfrag_codec.specs.EntryRecord.{HasTarget, kind_byte, target_bytes};
 ghost use Rattle.reply_codec.specs.ReplyBytes.{AreListedEntries, HasRank, IsInode, IsListed, IsReply, SpellsReply, counted_bytes, listed_bytes, listing_bytes, pin_number, plain_bytes, reply_bytes};
 
 use dirfrag_codec::fields::{put_u16, put_u32, put_u64};
@@ -166,7 +166,7 @@ fn kind_byte(kind: &Kind) -> u8
 
 // What a link points to; nothing for the other kinds.
 fn target_of(kind: &Kind) -> &[u8]
-    ensures target { result.now ≡ target_of kind.now }
+    ensures target { result.now ≡ target_bytes kind.now }
     ensures valid { HasTarget kind.now }
     ensures short { length result.now ≤ 4095 }
 {

@@ -1,7 +1,7 @@
 -- Names of other crates, and of this one's definitions, as the proofs of this crate take them.
 pub use Rattle.mds_types.specs.Frag.{Fragment, IsFragment, digit_at, fragment_text, span}
 pub use Rattle.script_output.specs.Escapes.{escaped, prints_plain}
-pub use Rattle.script_output.specs.Texts.{leaf_text, listed_text, root_text, word_text}
+pub use Rattle.script_output.specs.Texts.{spaced_frag, listed_text, root_text, spaced_word}
 pub use Rattle.script_output.specs.Writing.{Pushes, PushesMade}
 pub use Rattle.script_words.proofs.EscapeLemmas.{bytes_of-escape, bytes_of-plain}
 pub use Rattle.script_words.specs.Escapes.{hex_byte_of, hex_digit_of, onto}

@@ -88,16 +88,16 @@ abbrev pub reply_line : ℕ → ℕ → ℕ → Bool → Reply → List ℕ
 reply_line client tid place first reply = headed client tid place first (reply_text reply)
 
 -- a space and a fragment, as it prints
-abbrev pub leaf_text : Fragment → List ℕ
-leaf_text leaf = codes " " ++ fragment_text leaf
+abbrev pub spaced_frag : Fragment → List ℕ
+spaced_frag leaf = codes " " ++ fragment_text leaf
 
 -- `frags K F ..`: how many leaves, and then each of them
 abbrev pub frags_text : List Fragment → List ℕ
-frags_text leaves = codes "frags " ++ (decimal (length leaves) ++ flat_map leaf_text leaves)
+frags_text leaves = codes "frags " ++ (decimal (length leaves) ++ flat_map spaced_frag leaves)
 
 -- `tree K F ..`: how many leaves a fragment tree has, and then each of them
-abbrev pub tree_text : List Fragment → List ℕ
-tree_text leaves = codes "tree " ++ (decimal (length leaves) ++ flat_map leaf_text leaves)
+abbrev pub printed_tree : List Fragment → List ℕ
+printed_tree leaves = codes "tree " ++ (decimal (length leaves) ++ flat_map spaced_frag leaves)
 
 -- a space and `INO:FRAG:RANK`: the root of a subtree, and its rank
 abbrev pub root_text : Root → List ℕ
@@ -109,17 +109,17 @@ abbrev pub subtrees_text : List Root → List ℕ
 subtrees_text roots = codes "subtrees " ++ (decimal (length roots) ++ flat_map root_text roots)
 
 -- a space and a key or the name of an object, as it prints
-abbrev pub word_text : List ℕ → List ℕ
-word_text word = codes " " ++ escaped word
+abbrev pub spaced_word : List ℕ → List ℕ
+spaced_word word = codes " " ++ escaped word
 
 -- `frag VERSION FILES DIRS KEY ..`: a fragment's commit version, its entry counts, and the key of each entry
 abbrev pub frag_text : ℕ → ℕ → ℕ → List (List ℕ) → List ℕ
 frag_text version files dirs keys = codes "frag " ++ (decimal version
-    ++ (codes " " ++ (decimal files ++ (codes " " ++ (decimal dirs ++ flat_map word_text keys)))))
+    ++ (codes " " ++ (decimal files ++ (codes " " ++ (decimal dirs ++ flat_map spaced_word keys)))))
 
 -- `objects K NAME ..`: how many objects there are, and then the name of each
 abbrev pub objects_text : List (List ℕ) → List ℕ
-objects_text names = codes "objects " ++ (decimal (length names) ++ flat_map word_text names)
+objects_text names = codes "objects " ++ (decimal (length names) ++ flat_map spaced_word names)
 
 -- a space and the name of the object that is damaged; of another refusal nothing
 abbrev pub damaged_text : Refusal → List ℕ

@@ -4,7 +4,7 @@ ghost use Rattle.std.specs.Cmp.Lexicographic.{lists_equiv, pointwise};
 ghost use Rattle.std.specs.List.{flat_map};
 ghost use Rattle.std.specs.Prelude.{◌≡◌, Some};
 ghost use Rattle.std.proofs.Common.{rules};
-ghost use Rattle.script_output.specs.Texts.{frags_text, leaf_text, tree_text};
+ghost use Rattle.script_output.specs.Texts.{frags_text, spaced_frag, printed_tree};
 
 use mds_types::Frag;
 use std::fmt;
@@ -60,7 +60,7 @@ impl Eq for FragList {
 struct LeafTexts<'a>(&'a FragList);
 
 impl fmt::Display for LeafTexts<'_> {
-    ghost output = { λ text. Some (flat_map leaf_text text.0.now) };
+    ghost output = { λ text. Some (flat_map spaced_frag text.0.now) };
 
     fn fmt<W: fmt::Write>(&self, f: &mut fmt::Formatter<W>) -> fmt::Result {
         for leaf in self.0.as_slice() {
@@ -86,7 +86,7 @@ impl fmt::Display for FragList {
 pub struct TreeText<'a>(pub &'a FragList);
 
 impl fmt::Display for TreeText<'_> {
-    ghost output = { λ text. Some (tree_text text.0.now) };
+    ghost output = { λ text. Some (printed_tree text.0.now) };
 
     fn fmt<W: fmt::Write>(&self, f: &mut fmt::Formatter<W>) -> fmt::Result {
         let count = self.0.as_slice().len();

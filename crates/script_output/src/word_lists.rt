@@ -4,7 +4,7 @@ ghost use Rattle.std.specs.Cmp.{decided, partial_equiv_from_equiv};
 ghost use Rattle.std.specs.Cmp.Lexicographic.{lists_equiv, pointwise};
 ghost use Rattle.std.specs.List.{flat_map};
 ghost use Rattle.std.specs.Prelude.{◌≡◌, ◌==◌, IfOk, Some, map, string_bytes};
-ghost use Rattle.script_output.specs.Texts.{objects_text, word_text};
+ghost use Rattle.script_output.specs.Texts.{objects_text, spaced_word};
 
 use crate::escapes::Escaped;
 use mds_types::Bytes;
@@ -73,7 +73,7 @@ impl Eq for WordList {
 pub struct WordTexts<'a>(pub &'a WordList);
 
 impl fmt::Display for WordTexts<'_> {
-    ghost output = { λ text. Some (flat_map word_text text.0.now) };
+    ghost output = { λ text. Some (flat_map spaced_word text.0.now) };
 
     fn fmt<W: fmt::Write>(&self, f: &mut fmt::Formatter<W>) -> fmt::Result {
         for word in self.0.as_slice() {

@@ -5,8 +5,8 @@ pub use Rattle.script_text.specs.Texts.{FailsForText, GivesText, HasText, HoldsN
 pub use Rattle.script_text.specs.declared.reading.input.LineFault.{LineFault}
 pub use Rattle.script_text.specs.declared.reading.input.Shown.TheVariants.{InputEnd, LineEnd, More}
 pub use Rattle.script_words.proofs.FormLemmas.{fails_on, form_of_name, form_of_target, form_on}
-pub use Rattle.script_words.specs.Arguments.{is_dash, name_of, target_of, text_of, two_texts_of, word_name_of}
-pub use Rattle.script_words.specs.Reading.{Fails, Gives, HasForm, wanted, ◌>>=◌}
+pub use Rattle.script_words.specs.Arguments.{is_dash, name_of, target_of_word, text_of_word, two_texts_of, word_name_of}
+pub use Rattle.script_words.specs.Reading.{Fails, GivesWord, HasForm, wanted, ◌>>=◌}
 pub use Rattle.script_words.specs.declared.faults.Fault.{Fault}
 pub use Rattle.script_words.specs.declared.faults.Fault.TheVariants.{BadWord, NotCommand}
 pub use Rattle.script_words.specs.declared.faults.ReadError.{ReadError}

@@ -1,5 +1,5 @@
 -- Memory for names and targets is wanted only where all words of a command have their form, and for a command that holds some.
-use Rattle.script_text.proofs.Common.{BadWord, Bool, Err, Fails, FailsForText, Fault, Gives, GivesText, HasForm, HasText, IsErr, IsErrAnd, List, None, NotCommand, Ok, Option, ReadError, Result, Some, ap, cond, fails_on, false, form_of_name, form_of_target, is_dash, name_of, subst, sym, target_of, true, two_texts_of, word_name_of, ℕ, ◌>>=◌, ◌≡◌}
+use Rattle.script_text.proofs.Common.{BadWord, Bool, Err, Fails, FailsForText, Fault, GivesWord, GivesText, HasForm, HasText, IsErr, IsErrAnd, List, None, NotCommand, Ok, Option, ReadError, Result, Some, ap, cond, fails_on, false, form_of_name, form_of_target, is_dash, name_of, subst, sym, target_of_word, true, two_texts_of, word_name_of, ℕ, ◌>>=◌, ◌≡◌}
 use Rattle.script_words.specs.declared.faults.ReadError.TheVariants as errors
 use Rattle.mds_types.specs.declared.dentries.Dentry.{Dentry}
 use Rattle.script_words.specs.Arguments.{after_of}
@@ -39,11 +39,11 @@ module _ {B : Type 0} (Holds : B → Type 0) (error : ReadError) where
       at (errors.Fault fault) read is = ap (λ (r : Result (List ℕ) Fault). (r >>= λ name. Ok (named name)) >>= λ x. Ok (made x)) is
 
   pub target_fails : (word other : List ℕ) (made : List ℕ → List ℕ → B) → ((name target : List ℕ) → Holds (made name target)) → Fails error (two_texts_of word other)
-      → FailsForText Holds error (two_texts_of word other >>= λ both. (name_of both.0 >>= λ name. (target_of both.1 >>= λ target. Ok (made name target))))
+      → FailsForText Holds error (two_texts_of word other >>= λ both. (name_of both.0 >>= λ name. (target_of_word both.1 >>= λ target. Ok (made name target))))
   target_fails word other made holds fails =
-      fails_text_on Holds error (two_texts_of word other) (λ both. (name_of both.0 >>= λ name. (target_of both.1 >>= λ target. Ok (made name target)))) fails
-      (λ both. text_on Holds (name_of both.0) (λ name. (target_of both.1 >>= λ target. Ok (made name target))) (form_of_name both.0)
-      (λ name. text_on Holds (target_of both.1) (λ target. Ok (made name target)) (form_of_target both.1) (holds name)))
+      fails_text_on Holds error (two_texts_of word other) (λ both. (name_of both.0 >>= λ name. (target_of_word both.1 >>= λ target. Ok (made name target)))) fails
+      (λ both. text_on Holds (name_of both.0) (λ name. (target_of_word both.1 >>= λ target. Ok (made name target))) (form_of_name both.0)
+      (λ name. text_on Holds (target_of_word both.1) (λ target. Ok (made name target)) (form_of_target both.1) (holds name)))
 
   pub names_fail : (word other : List ℕ) (made : List ℕ → List ℕ → B) → ((name to : List ℕ) → Holds (made name to)) → Fails error (two_texts_of word other)
       → FailsForText Holds error (two_texts_of word other >>= λ both. (name_of both.0 >>= λ name. (name_of both.1 >>= λ to. Ok (made name to))))
@@ -69,7 +69,7 @@ module _ {B : Type 0} (Holds : B → Type 0) (made : Option (List ℕ) → B) (h
   after_fails error word other fails = after_at error (is_dash word) (word_name_of word) other fails
 
 -- what `?` hands on
-pub gives_fault : {A B : Type 0} (view : A → B) (result : Result A ReadError) (error : ReadError) (read : Result B Fault) → IsErr result → IsErrAnd result (λ e. e ≡ error) → Fails error read → Gives view result read
+pub gives_fault : {A B : Type 0} (view : A → B) (result : Result A ReadError) (error : ReadError) (read : Result B Fault) → IsErr result → IsErrAnd result (λ e. e ≡ error) → Fails error read → GivesWord view result read
 gives_fault view (Ok x) error read is and fails = cc
 gives_fault view (Err e) error read is and fails = subst (λ x. Fails x read) (sym and) fails
 

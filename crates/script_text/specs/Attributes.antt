@@ -4,14 +4,14 @@ use Rattle.mds_types.specs.declared.inodes.Attributes.{Attributes}
 use Rattle.mds_types.specs.declared.inodes.Birth.{Birth}
 use Rattle.script_words.specs.declared.faults.Fault.{Fault}
 use Rattle.script_words.specs.Words.{is_text}
-use Rattle.script_words.specs.Reading.{◌>>=◌, first, none}
+use Rattle.script_words.specs.Reading.{◌>>=◌, first_word, none}
 use Rattle.script_words.specs.Arguments.{mode_of, decimal_of, id_of}
 
 -- the word behind a key, where the words begin with the key, and the words that are left
 abbrev pub keyed : List ℕ → List (List ℕ) → Result (Option (List ℕ) × List (List ℕ)) Fault
 keyed key [] = Ok (None, [])
 keyed key (word ∷ words) =
-    if is_text word key then (first words >>= λ value. Ok (Some value.0, value.1)) else Ok (None, word ∷ words)
+    if is_text word key then (first_word words >>= λ value. Ok (Some value.0, value.1)) else Ok (None, word ∷ words)
 
 -- what a word is read as, where there is one
 abbrev pub if_given : (List ℕ → Result ℕ Fault) → Option (List ℕ) → Result (Option ℕ) Fault
@@ -21,7 +21,7 @@ if_given read (Some word) = read word >>= λ n. Ok (Some n)
 -- `[mode MODE] [size N] [mtime N] [uid N] [gid N]`: in this order, and at least one of them, since no word may be left
 unfoldable pub attributes_of : List (List ℕ) → Result Attributes Fault
 attributes_of words = do
-  some ← first words
+  some ← first_word words
   mode ← keyed (codes "mode") words
   size ← keyed (codes "size") mode.1
   mtime ← keyed (codes "mtime") size.1

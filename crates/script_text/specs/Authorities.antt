@@ -10,8 +10,8 @@ use Rattle.script_words.specs.Arguments.{ino_of, rank_of, decimal_of}
 use Rattle.script_words.specs.Fragments.{frag_of}
 
 -- `grant RANK CLIENT TID`; CLIENT 0, whose requests are operations alone, may be named too
-unfoldable pub grant_of : List (List ℕ) → Result Command Fault
-grant_of args = do
+unfoldable pub grant_of_words : List (List ℕ) → Result Command Fault
+grant_of_words args = do
   words ← three args
   rank ← rank_of words.0
   client ← decimal_of words.1

@@ -5,7 +5,7 @@ use Rattle.script_text.specs.declared.commands.Command.TheVariants.{Split, Merge
 use Rattle.script_words.specs.declared.faults.Fault.{Fault}
 use Rattle.script_words.specs.declared.faults.Fault.TheVariants.{NotCommand}
 use Rattle.script_words.specs.Words.{is_text}
-use Rattle.script_words.specs.Reading.{◌>>=◌, first, one, three, four}
+use Rattle.script_words.specs.Reading.{◌>>=◌, first_word, one, three, four}
 use Rattle.script_words.specs.Arguments.{ino_of, rank_of}
 use Rattle.script_words.specs.Fragments.{frag_of, split_bits_of}
 
@@ -29,8 +29,8 @@ merge_of args = do
   Ok (Merge rank ino frag)
 
 -- `dirfrag ls INO`
-unfoldable pub leaves_of : List (List ℕ) → Result Command Fault
-leaves_of args = do
+unfoldable pub leaves_of_words : List (List ℕ) → Result Command Fault
+leaves_of_words args = do
   word ← one args
   ino ← ino_of word
   Ok (Leaves ino)
@@ -40,10 +40,10 @@ unfoldable pub dirfrag_step_of : List ℕ → List (List ℕ) → Result Command
 dirfrag_step_of verb args =
     if is_text verb (codes "split") then split_of args else
     (if is_text verb (codes "merge") then merge_of args else
-    (if is_text verb (codes "ls") then leaves_of args else Err NotCommand))
+    (if is_text verb (codes "ls") then leaves_of_words args else Err NotCommand))
 
 -- `dirfrag split ..`, `dirfrag merge ..` or `dirfrag ls ..`
 unfoldable pub dirfrag_of : List (List ℕ) → Result Command Fault
 dirfrag_of args = do
-  verb ← first args
+  verb ← first_word args
   dirfrag_step_of verb.0 verb.1

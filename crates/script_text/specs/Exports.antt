@@ -7,7 +7,7 @@ use Rattle.script_text.specs.declared.exports.ExportCommand.TheVariants.{Dir, Fr
 use Rattle.script_words.specs.declared.faults.Fault.{Fault}
 use Rattle.script_words.specs.declared.faults.Fault.TheVariants.{NotCommand}
 use Rattle.script_words.specs.Words.{is_text}
-use Rattle.script_words.specs.Reading.{◌>>=◌, first, two, four}
+use Rattle.script_words.specs.Reading.{◌>>=◌, first_word, two, four}
 use Rattle.script_words.specs.Arguments.{ino_of, rank_of}
 use Rattle.script_words.specs.Fragments.{frag_of}
 
@@ -42,7 +42,7 @@ export_step_of verb args =
     (exported_of args >>= λ root. Ok (Cancel root.0 root.1)) else Err NotCommand))))))
 
 -- `export dir ..`, `export freeze ..` and so on
-unfoldable pub export_of : List (List ℕ) → Result ExportCommand Fault
-export_of args = do
-  verb ← first args
+unfoldable pub export_of_words : List (List ℕ) → Result ExportCommand Fault
+export_of_words args = do
+  verb ← first_word args
   export_step_of verb.0 verb.1

@@ -7,8 +7,8 @@ use Rattle.mds_types.specs.declared.operations.Op.TheVariants.{Lookup, Readdir, 
 use Rattle.script_words.specs.declared.faults.Fault.{Fault}
 use Rattle.script_words.specs.declared.faults.Fault.TheVariants.{NotCommand}
 use Rattle.script_words.specs.Words.{is_text}
-use Rattle.script_words.specs.Reading.{◌>>=◌, first, two, three, four}
-use Rattle.script_words.specs.Arguments.{ino_of, mode_of, pin_of, page_size_of, two_texts_of, after_of, name_of, target_of, word_name_of}
+use Rattle.script_words.specs.Reading.{◌>>=◌, first_word, two, three, four}
+use Rattle.script_words.specs.Arguments.{ino_of, mode_of, pin_of, page_size_of, two_texts_of, after_of, name_of, target_of_word, word_name_of}
 use Rattle.script_text.specs.Attributes.{attributes_of, birth_of}
 use Rattle.script_text.specs.declared.operations.DentryVerb.{DentryVerb}
 use Rattle.script_text.specs.declared.operations.DentryVerb.TheVariants as verbs
@@ -17,8 +17,8 @@ use Rattle.script_text.specs.declared.operations.DentryVerb.TheVariants as verbs
 -- rules the first decides.
 
 -- `INO NAME`: a dentry
-unfoldable pub dentry_of : List (List ℕ) → Result Dentry Fault
-dentry_of args = do
+unfoldable pub dentry_of_words : List (List ℕ) → Result Dentry Fault
+dentry_of_words args = do
   words ← two args
   dir ← ino_of words.0
   name ← word_name_of words.1
@@ -27,9 +27,9 @@ dentry_of args = do
 -- `INO NAME MODE [uid N] [gid N]`: a dentry, and what is made there
 unfoldable pub made_of : List (List ℕ) → Result (Dentry × ℕ × Birth) Fault
 made_of args = do
-  dir ← first args
-  name ← first dir.1
-  mode ← first name.1
+  dir ← first_word args
+  name ← first_word dir.1
+  mode ← first_word name.1
   ino ← ino_of dir.0
   bits ← mode_of mode.0
   birth ← birth_of mode.1
@@ -48,21 +48,21 @@ readdir_of args = do
 -- `INO NAME TARGET [uid N] [gid N]`
 unfoldable pub symlink_of : List (List ℕ) → Result Op Fault
 symlink_of args = do
-  dir ← first args
-  name ← first dir.1
-  to ← first name.1
+  dir ← first_word args
+  name ← first_word dir.1
+  to ← first_word name.1
   ino ← ino_of dir.0
   birth ← birth_of to.1
   both ← two_texts_of name.0 to.0
   name ← name_of both.0
-  target ← target_of both.1
+  target ← target_of_word both.1
   Ok (Symlink (record { dir = ino; name = name }) target birth)
 
 -- `INO NAME [mode MODE] [size N] [mtime N] [uid N] [gid N]`
 unfoldable pub setattr_of : List (List ℕ) → Result Op Fault
 setattr_of args = do
-  dir ← first args
-  name ← first dir.1
+  dir ← first_word args
+  name ← first_word dir.1
   ino ← ino_of dir.0
   given ← attributes_of name.1
   name ← word_name_of name.0
@@ -91,16 +91,16 @@ rename_of args = do
 -- an operation, by its first word and the words after it
 unfoldable pub operation_of : List ℕ → List (List ℕ) → Result Op Fault
 operation_of verb args =
-    if is_text verb (codes "lookup") then (dentry_of args >>= λ dentry. Ok (Lookup dentry)) else
+    if is_text verb (codes "lookup") then (dentry_of_words args >>= λ dentry. Ok (Lookup dentry)) else
     (if is_text verb (codes "readdir") then readdir_of args else
     (if is_text verb (codes "create") then (made_of args >>= λ made. Ok (Create made.0 made.1 made.2)) else
     (if is_text verb (codes "mkdir") then (made_of args >>= λ made. Ok (Mkdir made.0 made.1 made.2)) else
-    (if is_text verb (codes "readlink") then (dentry_of args >>= λ dentry. Ok (Readlink dentry)) else
+    (if is_text verb (codes "readlink") then (dentry_of_words args >>= λ dentry. Ok (Readlink dentry)) else
     (if is_text verb (codes "symlink") then symlink_of args else
     (if is_text verb (codes "setattr") then setattr_of args else
     (if is_text verb (codes "setpin") then setpin_of args else
-    (if is_text verb (codes "unlink") then (dentry_of args >>= λ dentry. Ok (Unlink dentry)) else
-    (if is_text verb (codes "rmdir") then (dentry_of args >>= λ dentry. Ok (Rmdir dentry)) else
+    (if is_text verb (codes "unlink") then (dentry_of_words args >>= λ dentry. Ok (Unlink dentry)) else
+    (if is_text verb (codes "rmdir") then (dentry_of_words args >>= λ dentry. Ok (Rmdir dentry)) else
     (if is_text verb (codes "rename") then rename_of args else Err NotCommand))))))))))
 
 -- ---- parts of it, for the functions that read them
@@ -114,7 +114,7 @@ asks_for verbs.Rmdir dentry = Rmdir dentry
 
 -- `INO NAME` behind such a verb
 abbrev pub on_dentry_of : DentryVerb → List (List ℕ) → Result Op Fault
-on_dentry_of verb args = dentry_of args >>= λ dentry. Ok (asks_for verb dentry)
+on_dentry_of verb args = dentry_of_words args >>= λ dentry. Ok (asks_for verb dentry)
 
 -- a file, or a directory
 abbrev pub create_of : List (List ℕ) → Result Op Fault

@@ -10,12 +10,12 @@ use Rattle.script_text.specs.declared.lines.Line.TheVariants as line
 use Rattle.script_words.specs.declared.faults.Fault.{Fault}
 use Rattle.script_words.specs.declared.faults.Fault.TheVariants.{NotCommand, BadWord}
 use Rattle.script_words.specs.Words.{words_of, is_text, is_printable, is_comment}
-use Rattle.script_words.specs.Reading.{◌>>=◌, first, none, one}
+use Rattle.script_words.specs.Reading.{◌>>=◌, first_word, none, one}
 use Rattle.script_words.specs.Arguments.{rank_of, client_of, decimal_of}
 use Rattle.script_text.specs.Operations.{operation_of}
-use Rattle.script_text.specs.Authorities.{grant_of, get_of, authority_of}
+use Rattle.script_text.specs.Authorities.{grant_of_words, get_of, authority_of}
 use Rattle.script_text.specs.Dirfrags.{dirfrag_of}
-use Rattle.script_text.specs.Exports.{export_of}
+use Rattle.script_text.specs.Exports.{export_of_words}
 use Rattle.script_text.specs.StoreCommands.{is_store_verb, store_command_of}
 use Rattle.script_text.specs.Texts.{HoldsText}
 
@@ -29,11 +29,11 @@ at_rank_of command args = do
 -- `req RANK CLIENT TID OLDEST OP`
 unfoldable pub req_of : List (List ℕ) → Result Command Fault
 req_of args = do
-  rank ← first args
-  client ← first rank.1
-  tid ← first client.1
-  oldest ← first tid.1
-  verb ← first oldest.1
+  rank ← first_word args
+  client ← first_word rank.1
+  tid ← first_word client.1
+  oldest ← first_word tid.1
+  verb ← first_word oldest.1
   rank ← rank_of rank.0
   client ← client_of client.0
   tid ← decimal_of tid.0
@@ -49,10 +49,10 @@ other_of verb args =
     (if is_text verb (codes "req") then req_of args else
     (if is_text verb (codes "history") then (none args >>= λ end. Ok History) else
     (if is_text verb (codes "dirfrag") then dirfrag_of args else
-    (if is_text verb (codes "grant") then grant_of args else
+    (if is_text verb (codes "grant") then grant_of_words args else
     (if is_text verb (codes "get") then get_of args else
     (if is_text verb (codes "authority") then authority_of args else
-    (if is_text verb (codes "export") then (export_of args >>= λ command. Ok (Export command)) else
+    (if is_text verb (codes "export") then (export_of_words args >>= λ command. Ok (Export command)) else
     (if is_store_verb verb then (store_command_of verb args >>= λ command. Ok (Store command)) else
     Err NotCommand)))))))))
 
@@ -87,7 +87,7 @@ line_of bytes =
 unfoldable pub operation_line_of : List ℕ → Result Op Fault
 operation_line_of bytes =
     if is_comment bytes then Err NotCommand else
-    (if list_all is_printable bytes then (first (words_of bytes) >>= λ words. operation_of words.0 words.1) else
+    (if list_all is_printable bytes then (first_word (words_of bytes) >>= λ words. operation_of words.0 words.1) else
     Err NotCommand)
 
 -- a line of a command that holds text, or of one with a name or a target outside its rules

@@ -14,8 +14,8 @@ use Rattle.script_words.specs.Arguments.{decimal_of, ino_of, rank_of}
 use Rattle.script_words.specs.Fragments.{frag_of}
 
 -- `RANK INO FRAG`: a leaf, and the rank that is asked
-unfoldable pub leaf_of : List (List ℕ) → Result (Rank × Ino × Fragment) Fault
-leaf_of args = do
+unfoldable pub leaf_of_words : List (List ℕ) → Result (Rank × Ino × Fragment) Fault
+leaf_of_words args = do
   words ← three args
   rank ← rank_of words.0
   ino ← ino_of words.1
@@ -25,7 +25,7 @@ leaf_of args = do
 -- `begin RANK INO FRAG`
 unfoldable pub begin_of : List (List ℕ) → Result StoreCommand Fault
 begin_of args = do
-  leaf ← leaf_of args
+  leaf ← leaf_of_words args
   Ok (CommitBegin leaf.0 leaf.1 leaf.2)
 
 -- `end J`
@@ -45,12 +45,12 @@ drop_of args = do
 -- `commit RANK INO FRAG`
 unfoldable pub commit_of : List (List ℕ) → Result StoreCommand Fault
 commit_of args = do
-  leaf ← leaf_of args
+  leaf ← leaf_of_words args
   Ok (Commit leaf.0 leaf.1 leaf.2)
 
 -- `tree INO`
-unfoldable pub tree_of : List (List ℕ) → Result StoreCommand Fault
-tree_of args = do
+unfoldable pub tree_of_words : List (List ℕ) → Result StoreCommand Fault
+tree_of_words args = do
   word ← one args
   ino ← ino_of word
   Ok (CommitTree ino)
@@ -80,8 +80,8 @@ unfoldable pub text_name_of : List ℕ → Result (List ℕ) Fault
 text_name_of word = wanted (if is_utf8 word then Some word else None)
 
 -- `object NAME`
-unfoldable pub object_of : List (List ℕ) → Result StoreCommand Fault
-object_of args = do
+unfoldable pub object_of_words : List (List ℕ) → Result StoreCommand Fault
+object_of_words args = do
   word ← one args
   name ← text_name_of word
   Ok (Object name)
@@ -107,9 +107,9 @@ store_command_of verb args =
     (if is_text verb (codes "end") then end_of args else
     (if is_text verb (codes "drop") then drop_of args else
     (if is_text verb (codes "commit") then commit_of args else
-    (if is_text verb (codes "tree") then tree_of args else
+    (if is_text verb (codes "tree") then tree_of_words args else
     (if is_text verb (codes "purge") then purge_of args else
     (if is_text verb (codes "flush") then flush_of args else
     (if is_text verb (codes "evict") then evict_of args else
-    (if is_text verb (codes "object") then object_of args else
+    (if is_text verb (codes "object") then object_of_words args else
     (if is_text verb (codes "objects") then objects_of args else Err NotCommand)))))))))

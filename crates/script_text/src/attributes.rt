@@ -1,7 +1,7 @@
 //! Attributes of an inode, each behind a word that names it.
 ghost use Rattle.std.specs.Prelude.{option_map};
 ghost use Rattle.script_words.specs.Words.{words_of};
-ghost use Rattle.script_words.specs.Reading.{Reads};
+ghost use Rattle.script_words.specs.Reading.{ReadsWord};
 ghost use Rattle.script_words.specs.Arguments.{mode_of, decimal_of, id_of};
 ghost use Rattle.script_text.specs.Attributes.{attributes_of, birth_of, if_given, keyed};
 
@@ -11,7 +11,7 @@ use script_words::{ReadError, decimal, first, id, is_text, mode, next_word, none
 /// `[mode MODE] [size N] [mtime N] [uid N] [gid N]`: in this order, and at least one of them.
 #[tactic(auto, unfolding(crate::specs::Attributes::attributes_of))]
 pub fn given_attributes(words: &[u8]) -> Result<PackedAttributes, ReadError>
-    ensures { Reads (λ given. given) result (attributes_of (words_of words.now)) }
+    ensures { ReadsWord (λ given. given) result (attributes_of (words_of words.now)) }
 {
     first(words)?;
     let (mode, rest) = keyed(b"mode", words)?;
@@ -37,7 +37,7 @@ pub fn given_attributes(words: &[u8]) -> Result<PackedAttributes, ReadError>
 /// `[uid N] [gid N]`: in this order, and 0 where it isn't given. What is made has mtime 0.
 #[tactic(auto, unfolding(crate::specs::Attributes::birth_of))]
 pub fn given_birth(words: &[u8]) -> Result<Birth, ReadError>
-    ensures { Reads (λ birth. birth) result (birth_of (words_of words.now)) }
+    ensures { ReadsWord (λ birth. birth) result (birth_of (words_of words.now)) }
 {
     let (uid, rest) = keyed(b"uid", words)?;
     let (gid, left) = keyed(b"gid", rest)?;
@@ -53,7 +53,7 @@ pub fn given_birth(words: &[u8]) -> Result<Birth, ReadError>
 
 // The word behind the key, where the words begin with the key, and the words that are left.
 fn keyed<'a>(key: &[u8], words: &'a [u8]) -> Result<(Option<&'a [u8]>, &'a [u8]), ReadError>
-    ensures { Reads (λ w. (option_map (λ word. word.now) w.0, words_of w.1.now)) result
+    ensures { ReadsWord (λ w. (option_map (λ word. word.now) w.0, words_of w.1.now)) result
         (keyed key.now (words_of words.now)) }
 {
     let Some((word, rest)) = next_word(words) else {
@@ -68,7 +68,7 @@ fn keyed<'a>(key: &[u8], words: &'a [u8]) -> Result<(Option<&'a [u8]>, &'a [u8])
 
 // The mode that the word writes, where there is one.
 fn mode_given(word: Option<&[u8]>) -> Result<Option<Mode>, ReadError>
-    ensures { Reads (λ mode. mode) result (if_given mode_of (option_map (λ w. w.now) word.entry)) }
+    ensures { ReadsWord (λ mode. mode) result (if_given mode_of (option_map (λ w. w.now) word.entry)) }
 {
     match word {
         None => Ok(None),
@@ -78,7 +78,7 @@ fn mode_given(word: Option<&[u8]>) -> Result<Option<Mode>, ReadError>
 
 // The number that the word writes, where there is one.
 fn number_given(word: Option<&[u8]>) -> Result<Option<u64>, ReadError>
-    ensures { Reads (λ n. n) result (if_given decimal_of (option_map (λ w. w.now) word.entry)) }
+    ensures { ReadsWord (λ n. n) result (if_given decimal_of (option_map (λ w. w.now) word.entry)) }
 {
     match word {
         None => Ok(None),
@@ -88,7 +88,7 @@ fn number_given(word: Option<&[u8]>) -> Result<Option<u64>, ReadError>
 
 // The owner or the group that the word writes, where there is one.
 fn id_given(word: Option<&[u8]>) -> Result<Option<u32>, ReadError>
-    ensures { Reads (λ n. n) result (if_given id_of (option_map (λ w. w.now) word.entry)) }
+    ensures { ReadsWord (λ n. n) result (if_given id_of (option_map (λ w. w.now) word.entry)) }
 {
     match word {
         None => Ok(None),

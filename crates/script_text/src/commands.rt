@@ -1,6 +1,6 @@
 //! Commands, by their first word.
 ghost use Rattle.script_words.specs.Words.{words_of};
-ghost use Rattle.script_words.specs.Reading.{Reads};
+ghost use Rattle.script_words.specs.Reading.{ReadsWord};
 ghost use Rattle.script_text.specs.Script.{at_rank_of, command_of, other_of, req_of};
 ghost use Rattle.script_text.specs.declared.commands.Command.TheVariants.{Own, Serve};
 ghost use Rattle.script_text.specs.Texts.{GivesText, HoldsText};
@@ -121,7 +121,7 @@ fn read_other(alloc: Global, verb: &[u8], args: &[u8]) -> Result<Command, ReadEr
 // `serve RANK`
 #[tactic(auto, unfolding(crate::specs::Script::at_rank_of))]
 fn serve(args: &[u8]) -> Result<Command, ReadError>
-    ensures { Reads (λ command. command) result (at_rank_of Serve (words_of args.now)) }
+    ensures { ReadsWord (λ command. command) result (at_rank_of Serve (words_of args.now)) }
 {
     let word = one(args)?;
     Ok(Command::Serve(rank(word)?))
@@ -130,7 +130,7 @@ fn serve(args: &[u8]) -> Result<Command, ReadError>
 // `own RANK`
 #[tactic(auto, unfolding(crate::specs::Script::at_rank_of))]
 fn own(args: &[u8]) -> Result<Command, ReadError>
-    ensures { Reads (λ command. command) result (at_rank_of Own (words_of args.now)) }
+    ensures { ReadsWord (λ command. command) result (at_rank_of Own (words_of args.now)) }
 {
     let word = one(args)?;
     Ok(Command::Own(rank(word)?))

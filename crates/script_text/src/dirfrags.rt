@@ -1,7 +1,7 @@
 //! Commands on the leaves of a directory, by the word after `dirfrag`.
 ghost use Rattle.script_words.specs.Words.{words_of};
-ghost use Rattle.script_words.specs.Reading.{Reads};
-ghost use Rattle.script_text.specs.Dirfrags.{dirfrag_of, dirfrag_step_of, leaves_of, merge_of, split_of};
+ghost use Rattle.script_words.specs.Reading.{ReadsWord};
+ghost use Rattle.script_text.specs.Dirfrags.{dirfrag_of, dirfrag_step_of, leaves_of_words, merge_of, split_of};
 
 use crate::commands::Command;
 use script_words::{
@@ -11,7 +11,7 @@ use script_words::{
 /// `dirfrag` and what follows it.
 #[tactic(auto, unfolding(crate::specs::Dirfrags::dirfrag_of))]
 pub fn dirfrag(args: &[u8]) -> Result<Command, ReadError>
-    ensures { Reads (λ command. command) result (dirfrag_of (words_of args.now)) }
+    ensures { ReadsWord (λ command. command) result (dirfrag_of (words_of args.now)) }
 {
     let (verb, rest) = first(args)?;
     dirfrag_step(verb, rest)
@@ -20,7 +20,7 @@ pub fn dirfrag(args: &[u8]) -> Result<Command, ReadError>
 // The command of this word after `dirfrag`, with the arguments in these words.
 #[tactic(auto, unfolding(crate::specs::Dirfrags::dirfrag_step_of))]
 fn dirfrag_step(verb: &[u8], args: &[u8]) -> Result<Command, ReadError>
-    ensures { Reads (λ command. command) result (dirfrag_step_of verb.now (words_of args.now)) }
+    ensures { ReadsWord (λ command. command) result (dirfrag_step_of verb.now (words_of args.now)) }
 {
     if is_text(verb, b"split") {
         return split(args);
@@ -37,7 +37,7 @@ fn dirfrag_step(verb: &[u8], args: &[u8]) -> Result<Command, ReadError>
 // `dirfrag split RANK INO FRAG NB`
 #[tactic(auto, unfolding(crate::specs::Dirfrags::split_of))]
 fn split(args: &[u8]) -> Result<Command, ReadError>
-    ensures { Reads (λ command. command) result (split_of (words_of args.now)) }
+    ensures { ReadsWord (λ command. command) result (split_of (words_of args.now)) }
 {
     let (at, dir, leaf, number) = four(args)?;
     let rank = rank(at)?;
@@ -55,7 +55,7 @@ fn split(args: &[u8]) -> Result<Command, ReadError>
 // `dirfrag merge RANK INO FRAG`
 #[tactic(auto, unfolding(crate::specs::Dirfrags::merge_of))]
 fn merge(args: &[u8]) -> Result<Command, ReadError>
-    ensures { Reads (λ command. command) result (merge_of (words_of args.now)) }
+    ensures { ReadsWord (λ command. command) result (merge_of (words_of args.now)) }
 {
     let (at, dir, around) = three(args)?;
     let rank = rank(at)?;
@@ -67,7 +67,7 @@ fn merge(args: &[u8]) -> Result<Command, ReadError>
 // `dirfrag ls INO`
 #[tactic(auto, unfolding(crate::specs::Dirfrags::leaves_of))]
 fn leaves(args: &[u8]) -> Result<Command, ReadError>
-    ensures { Reads (λ command. command) result (leaves_of (words_of args.now)) }
+    ensures { ReadsWord (λ command. command) result (leaves_of_words (words_of args.now)) }
 {
     let dir = one(args)?;
     Ok(Command::Leaves(ino(dir)?))

@@ -1,7 +1,7 @@
 //! Commands on the exports of subtrees, by the word after `export`.
 ghost use Rattle.script_words.specs.Words.{words_of};
-ghost use Rattle.script_words.specs.Reading.{Reads};
-ghost use Rattle.script_text.specs.Exports.{dir_of, export_of, export_step_of, exported_of};
+ghost use Rattle.script_words.specs.Reading.{ReadsWord};
+ghost use Rattle.script_text.specs.Exports.{dir_of, export_of_words, export_step_of, exported_of};
 
 use mds_types::{Frag, Ino, Rank};
 use script_words::{NOT_COMMAND, ReadError, first, four, frag, ino, is_text, rank, two};
@@ -51,7 +51,7 @@ pub enum ExportCommand {
 /// What follows `export`.
 #[tactic(auto, unfolding(crate::specs::Exports::export_of))]
 pub fn read_export(args: &[u8]) -> Result<ExportCommand, ReadError>
-    ensures { Reads (λ command. command) result (export_of (words_of args.now)) }
+    ensures { ReadsWord (λ command. command) result (export_of_words (words_of args.now)) }
 {
     let (verb, rest) = first(args)?;
     export_step(verb, rest)
@@ -60,7 +60,7 @@ pub fn read_export(args: &[u8]) -> Result<ExportCommand, ReadError>
 // The command of this word after `export`, with the arguments in these words.
 #[tactic(auto, unfolding(crate::specs::Exports::export_step_of))]
 fn export_step(verb: &[u8], args: &[u8]) -> Result<ExportCommand, ReadError>
-    ensures { Reads (λ command. command) result (export_step_of verb.now (words_of args.now)) }
+    ensures { ReadsWord (λ command. command) result (export_step_of verb.now (words_of args.now)) }
 {
     if is_text(verb, b"dir") {
         return dir(args);
@@ -95,7 +95,7 @@ fn export_step(verb: &[u8], args: &[u8]) -> Result<ExportCommand, ReadError>
 // `export dir FROM INO FRAG TO`
 #[tactic(auto, unfolding(crate::specs::Exports::dir_of))]
 fn dir(args: &[u8]) -> Result<ExportCommand, ReadError>
-    ensures { Reads (λ command. command) result (dir_of (words_of args.now)) }
+    ensures { ReadsWord (λ command. command) result (dir_of (words_of args.now)) }
 {
     let (exporter, dir, leaf, importer) = four(args)?;
     let from = rank(exporter)?;
@@ -113,7 +113,7 @@ fn dir(args: &[u8]) -> Result<ExportCommand, ReadError>
 // `INO FRAG`: the root of an export.
 #[tactic(auto, unfolding(crate::specs::Exports::exported_of))]
 fn exported(args: &[u8]) -> Result<(Ino, Frag), ReadError>
-    ensures { Reads (λ root. root) result (exported_of (words_of args.now)) }
+    ensures { ReadsWord (λ root. root) result (exported_of (words_of args.now)) }
 {
     let (dir, root) = two(args)?;
     let ino = ino(dir)?;

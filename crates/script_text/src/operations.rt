@@ -1,6 +1,6 @@
 //! Operations, by the words after the first.
 ghost use Rattle.script_words.specs.Words.{words_of};
-ghost use Rattle.script_words.specs.Reading.{Gives};
+ghost use Rattle.script_words.specs.Reading.{GivesWord};
 ghost use Rattle.script_text.specs.Operations.{create_of, made_of, mkdir_of, on_dentry_of, readdir_of, symlink_of, setattr_of, setpin_of, rename_of, operation_of};
 ghost use Rattle.script_text.specs.Texts.{GivesText, HoldsName};
 
@@ -113,7 +113,7 @@ fn mkdir(alloc: Global, args: &[u8]) -> Result<Op, ReadError>
 #[inline(always)]
 #[tactic(auto, unfolding(crate::specs::Operations::made_of))]
 fn made(alloc: Global, args: &[u8]) -> Result<(Dentry, Mode, Birth), ReadError>
-    ensures { Gives (λ made. made) result (made_of (words_of args.now)) }
+    ensures { GivesWord (λ made. made) result (made_of (words_of args.now)) }
 {
     let (dir, rest) = first(args)?;
     let (word, rest) = first(rest)?;

@@ -1,8 +1,8 @@
 //! Commands on the store: commits, fragment trees, the purge list, flushes, eviction, and looks at objects.
 ghost use Rattle.std.specs.Prelude.{◌≡◌};
 ghost use Rattle.script_words.specs.Words.{words_of};
-ghost use Rattle.script_words.specs.Reading.{Gives, Reads};
-ghost use Rattle.script_text.specs.StoreCommands.{begin_of, commit_of, drop_of, end_of, evict_of, flush_of, is_store_verb, leaf_of, object_of, objects_of, purge_of, store_command_of, text_name_of, tree_of};
+ghost use Rattle.script_words.specs.Reading.{GivesWord, ReadsWord};
+ghost use Rattle.script_text.specs.StoreCommands.{begin_of, commit_of, drop_of, end_of, evict_of, flush_of, is_store_verb, leaf_of_words, object_of_words, objects_of, purge_of, store_command_of, text_name_of, tree_of_words};
 ghost use Rattle.script_text.specs.Texts.{GivesText, HoldsObject};
 
 use mds_types::{Frag, Ino, Rank, Text};
@@ -95,7 +95,7 @@ pub fn read_store_command(
 // `RANK INO FRAG`: a leaf, and the rank that is asked.
 #[tactic(auto, unfolding(crate::specs::StoreCommands::leaf_of))]
 fn leaf(args: &[u8]) -> Result<(Rank, Ino, Frag), ReadError>
-    ensures { Reads (λ leaf. leaf) result (leaf_of (words_of args.now)) }
+    ensures { ReadsWord (λ leaf. leaf) result (leaf_of_words (words_of args.now)) }
 {
     let (at, dir, part) = three(args)?;
     let rank = rank(at)?;
@@ -107,7 +107,7 @@ fn leaf(args: &[u8]) -> Result<(Rank, Ino, Frag), ReadError>
 // `begin RANK INO FRAG`
 #[tactic(auto, unfolding(crate::specs::StoreCommands::begin_of))]
 fn begin(args: &[u8]) -> Result<StoreCommand, ReadError>
-    ensures { Reads (λ command. command) result (begin_of (words_of args.now)) }
+    ensures { ReadsWord (λ command. command) result (begin_of (words_of args.now)) }
 {
     let (rank, ino, frag) = leaf(args)?;
     Ok(StoreCommand::CommitBegin { rank, ino, frag })
@@ -116,7 +116,7 @@ fn begin(args: &[u8]) -> Result<StoreCommand, ReadError>
 // `end J`
 #[tactic(auto, unfolding(crate::specs::StoreCommands::end_of))]
 fn end(args: &[u8]) -> Result<StoreCommand, ReadError>
-    ensures { Reads (λ command. command) result (end_of (words_of args.now)) }
+    ensures { ReadsWord (λ command. command) result (end_of (words_of args.now)) }
 {
     let word = one(args)?;
     Ok(StoreCommand::CommitEnd(decimal(word)?))
@@ -125,7 +125,7 @@ fn end(args: &[u8]) -> Result<StoreCommand, ReadError>
 // `drop J`
 #[tactic(auto, unfolding(crate::specs::StoreCommands::drop_of))]
 fn drop_job(args: &[u8]) -> Result<StoreCommand, ReadError>
-    ensures { Reads (λ command. command) result (drop_of (words_of args.now)) }
+    ensures { ReadsWord (λ command. command) result (drop_of (words_of args.now)) }
 {
     let word = one(args)?;
     Ok(StoreCommand::CommitDrop(decimal(word)?))
@@ -134,7 +134,7 @@ fn drop_job(args: &[u8]) -> Result<StoreCommand, ReadError>
 // `commit RANK INO FRAG`
 #[tactic(auto, unfolding(crate::specs::StoreCommands::commit_of))]
 fn commit(args: &[u8]) -> Result<StoreCommand, ReadError>
-    ensures { Reads (λ command. command) result (commit_of (words_of args.now)) }
+    ensures { ReadsWord (λ command. command) result (commit_of (words_of args.now)) }
 {
     let (rank, ino, frag) = leaf(args)?;
     Ok(StoreCommand::Commit { rank, ino, frag })
@@ -143,7 +143,7 @@ fn commit(args: &[u8]) -> Result<StoreCommand, ReadError>
 // `tree INO`
 #[tactic(auto, unfolding(crate::specs::StoreCommands::tree_of))]
 fn tree(args: &[u8]) -> Result<StoreCommand, ReadError>
-    ensures { Reads (λ command. command) result (tree_of (words_of args.now)) }
+    ensures { ReadsWord (λ command. command) result (tree_of_words (words_of args.now)) }
 {
     let dir = one(args)?;
     Ok(StoreCommand::CommitTree(ino(dir)?))
@@ -152,7 +152,7 @@ fn tree(args: &[u8]) -> Result<StoreCommand, ReadError>
 // `purge`
 #[tactic(auto, unfolding(crate::specs::StoreCommands::purge_of))]
 fn purge(args: &[u8]) -> Result<StoreCommand, ReadError>
-    ensures { Reads (λ command. command) result (purge_of (words_of args.now)) }
+    ensures { ReadsWord (λ command. command) result (purge_of (words_of args.now)) }
 {
     none(args)?;
     Ok(StoreCommand::Purge)
@@ -161,7 +161,7 @@ fn purge(args: &[u8]) -> Result<StoreCommand, ReadError>
 // `flush`
 #[tactic(auto, unfolding(crate::specs::StoreCommands::flush_of))]
 fn flush(args: &[u8]) -> Result<StoreCommand, ReadError>
-    ensures { Reads (λ command. command) result (flush_of (words_of args.now)) }
+    ensures { ReadsWord (λ command. command) result (flush_of (words_of args.now)) }
 {
     none(args)?;
     Ok(StoreCommand::Flush)
@@ -170,7 +170,7 @@ fn flush(args: &[u8]) -> Result<StoreCommand, ReadError>
 // `evict RANK`
 #[tactic(auto, unfolding(crate::specs::StoreCommands::evict_of))]
 fn evict(args: &[u8]) -> Result<StoreCommand, ReadError>
-    ensures { Reads (λ command. command) result (evict_of (words_of args.now)) }
+    ensures { ReadsWord (λ command. command) result (evict_of (words_of args.now)) }
 {
     let word = one(args)?;
     Ok(StoreCommand::Evict(rank(word)?))
@@ -179,7 +179,7 @@ fn evict(args: &[u8]) -> Result<StoreCommand, ReadError>
 // `object NAME`
 #[tactic(auto, unfolding(crate::specs::StoreCommands::object_of))]
 fn object(alloc: Global, args: &[u8]) -> Result<StoreCommand, ReadError>
-    ensures { GivesText HoldsObject result (object_of (words_of args.now)) }
+    ensures { GivesText HoldsObject result (object_of_words (words_of args.now)) }
 {
     let word = one(args)?;
     Ok(StoreCommand::Object(text_name(alloc, word)?))
@@ -188,7 +188,7 @@ fn object(alloc: Global, args: &[u8]) -> Result<StoreCommand, ReadError>
 // The word itself, as the text that names an object.
 #[tactic(auto, using(crate::proofs::TextNames::named, crate::proofs::TextNames::not_named))]
 fn text_name(alloc: Global, word: &[u8]) -> Result<Text, ReadError>
-    ensures { Gives (λ name. name) result (text_name_of word.now) }
+    ensures { GivesWord (λ name. name) result (text_name_of word.now) }
 {
     match str::from_utf8(word) {
         Ok(name) => Ok(Text::copy_of(alloc, name)?),
@@ -199,7 +199,7 @@ fn text_name(alloc: Global, word: &[u8]) -> Result<Text, ReadError>
 // `objects`
 #[tactic(auto, unfolding(crate::specs::StoreCommands::objects_of))]
 fn objects(args: &[u8]) -> Result<StoreCommand, ReadError>
-    ensures { Reads (λ command. command) result (objects_of (words_of args.now)) }
+    ensures { ReadsWord (λ command. command) result (objects_of (words_of args.now)) }
 {
     none(args)?;
     Ok(StoreCommand::Objects)

@@ -52,12 +52,12 @@ unfoldable pub page_size_of : List ℕ → Result ℕ Fault
 page_size_of word = wanted (option_and_then (within 1 1024) (number_of 10 word))
 
 -- NAME and TARGET: the bytes that the word stands for
-unfoldable pub text_of : List ℕ → Result (List ℕ) Fault
-text_of word = wanted (bytes_of word)
+unfoldable pub text_of_word : List ℕ → Result (List ℕ) Fault
+text_of_word word = wanted (bytes_of word)
 
 -- NAME and TARGET, or two names: the bytes that both words stand for
 unfoldable pub two_texts_of : List ℕ → List ℕ → Result (List ℕ × List ℕ) Fault
-two_texts_of word other = text_of word >>= λ bytes. (text_of other >>= λ others. Ok (bytes, others))
+two_texts_of word other = text_of_word word >>= λ bytes. (text_of_word other >>= λ others. Ok (bytes, others))
 
 -- the word `-`
 abbrev pub is_dash : List ℕ → Bool
@@ -76,15 +76,15 @@ name_of bytes =
 
 -- NAME: the name that the word stands for
 unfoldable pub word_name_of : List ℕ → Result (List ℕ) Fault
-word_name_of word = text_of word >>= name_of
+word_name_of word = text_of_word word >>= name_of
 
 -- AFTER: none for `-` alone, else the name that the word stands for
 unfoldable pub after_of : List ℕ → Result (Option (List ℕ)) Fault
 after_of word = if is_dash word then Ok None else (word_name_of word >>= λ name. Ok (Some name))
 
 -- a target, or the errno of bytes that are none: too long before all else, then empty, then with a zero byte
-unfoldable pub target_of : List ℕ → Result (List ℕ) Fault
-target_of bytes =
+unfoldable pub target_of_word : List ℕ → Result (List ℕ) Fault
+target_of_word bytes =
     if nat_lt 4095 (length bytes) then Err (BadWord 36) else
     (if length bytes == 0 then Err (BadWord 2) else
     (if list_all fits_target bytes then Ok bytes else Err (BadWord 22)))

@@ -17,9 +17,9 @@ wanted None = Err NotCommand
 wanted (Some x) = Ok x
 
 -- the first word, and those after it
-abbrev pub first : List (List ℕ) → Result (List ℕ × List (List ℕ)) Fault
-first [] = Err NotCommand
-first (a ∷ words) = Ok (a, words)
+abbrev pub first_word : List (List ℕ) → Result (List ℕ × List (List ℕ)) Fault
+first_word [] = Err NotCommand
+first_word (a ∷ words) = Ok (a, words)
 
 -- no further word
 abbrev pub none : List (List ℕ) → Result (Unit {0}) Fault
@@ -65,9 +65,9 @@ Fails errors.NoMemory read = HasForm read
 Fails (errors.Fault fault) read = read ≡ Err fault
 
 -- what a function returned, seen by view, is what the definition reads, unless memory was refused
-abbrev pub Gives : {A B : Type 0} → (A → B) → Result A ReadError → Result B Fault → Type 0
-Gives view (Ok x) read = read ≡ Ok (view x)
-Gives view (Err error) read = Fails error read
+abbrev pub GivesWord : {A B : Type 0} → (A → B) → Result A ReadError → Result B Fault → Type 0
+GivesWord view (Ok x) read = read ≡ Ok (view x)
+GivesWord view (Err error) read = Fails error read
 
 -- a fault is that of the definition, and never want of memory
 abbrev pub Tells : {B : Type 0} → ReadError → Result B Fault → Type 0
@@ -75,6 +75,6 @@ Tells errors.NoMemory read = ⊥
 Tells (errors.Fault fault) read = read ≡ Err fault
 
 -- what a function that takes no memory returned, seen by view, is what the definition reads
-abbrev pub Reads : {A B : Type 0} → (A → B) → Result A ReadError → Result B Fault → Type 0
-Reads view (Ok x) read = read ≡ Ok (view x)
-Reads view (Err error) read = Tells error read
+abbrev pub ReadsWord : {A B : Type 0} → (A → B) → Result A ReadError → Result B Fault → Type 0
+ReadsWord view (Ok x) read = read ≡ Ok (view x)
+ReadsWord view (Err error) read = Tells error read

@@ -1,7 +1,7 @@
 //! The words after a command's first.
 ghost use Rattle.std.specs.Prelude.{◌≡◌, OnErr, false};
-ghost use Rattle.script_words.specs.Reading.{Gives, Reads};
-ghost use Rattle.script_words.specs.Arguments.{ino_of, rank_of, pin_of, client_of, decimal_of, id_of, mode_of, page_size_of, text_of, two_texts_of, after_of, name_of, target_of, is_dash, word_name_of};
+ghost use Rattle.script_words.specs.Reading.{GivesWord, ReadsWord};
+ghost use Rattle.script_words.specs.Arguments.{ino_of, rank_of, pin_of, client_of, decimal_of, id_of, mode_of, page_size_of, text_of_word, two_texts_of, after_of, name_of, target_of_word, is_dash, word_name_of};
 
 use crate::escapes::{is_escaped, is_plain, unescaped};
 use crate::faults::{Fault, NOT_COMMAND, ReadError};
@@ -15,7 +15,7 @@ use std::alloc::Global;
 /// INO: lower hexadecimal.
 #[tactic(auto, unfolding(crate::specs::Arguments::ino_of))]
 pub fn ino(word: &[u8]) -> Result<Ino, ReadError>
-    ensures { Reads (λ ino. ino) result (ino_of word.now) }
+    ensures { ReadsWord (λ ino. ino) result (ino_of word.now) }
 {
     match number(word, 16) {
         Some(n) => Ok(Ino(n)),
@@ -26,7 +26,7 @@ pub fn ino(word: &[u8]) -> Result<Ino, ReadError>
 /// RANK: decimal, 0 to 255.
 #[tactic(auto, unfolding(crate::specs::Arguments::rank_of))]
 pub fn rank(word: &[u8]) -> Result<Rank, ReadError>
-    ensures { Reads (λ rank. rank) result (rank_of word.now) }
+    ensures { ReadsWord (λ rank. rank) result (rank_of word.now) }
 {
     match number(word, 10) {
         Some(n) if n <= 255 => Ok(Rank(n as u8)),
@@ -37,7 +37,7 @@ pub fn rank(word: &[u8]) -> Result<Rank, ReadError>
 /// RANK, or `-1` for no pin.
 #[tactic(auto, unfolding(crate::specs::Arguments::pin_of))]
 pub fn pin(word: &[u8]) -> Result<Option<Rank>, ReadError>
-    ensures { Reads (λ pin. pin) result (pin_of word.now) }
+    ensures { ReadsWord (λ pin. pin) result (pin_of word.now) }
 {
     if word == b"-1".as_slice() {
         return Ok(None);
@@ -48,7 +48,7 @@ pub fn pin(word: &[u8]) -> Result<Option<Rank>, ReadError>
 /// CLIENT: decimal, at least 1.
 #[tactic(auto, unfolding(crate::specs::Arguments::client_of))]
 pub fn client(word: &[u8]) -> Result<u64, ReadError>
-    ensures { Reads (λ client. client) result (client_of word.now) }
+    ensures { ReadsWord (λ client. client) result (client_of word.now) }
 {
     match number(word, 10) {
         Some(n) if 1 <= n => Ok(n),
@@ -59,7 +59,7 @@ pub fn client(word: &[u8]) -> Result<u64, ReadError>
 /// TID, OLDEST and the N of an attribute: decimal.
 #[tactic(auto, unfolding(crate::specs::Arguments::decimal_of))]
 pub fn decimal(word: &[u8]) -> Result<u64, ReadError>
-    ensures { Reads (λ n. n) result (decimal_of word.now) }
+    ensures { ReadsWord (λ n. n) result (decimal_of word.now) }
 {
     match number(word, 10) {
         Some(n) => Ok(n),
@@ -70,7 +70,7 @@ pub fn decimal(word: &[u8]) -> Result<u64, ReadError>
 /// The N of an owner or a group: decimal, of 32 bits.
 #[tactic(auto, unfolding(crate::specs::Arguments::id_of))]
 pub fn id(word: &[u8]) -> Result<u32, ReadError>
-    ensures { Reads (λ n. n) result (id_of word.now) }
+    ensures { ReadsWord (λ n. n) result (id_of word.now) }
 {
     match number(word, 10) {
         Some(n) if n <= 4_294_967_295 => Ok(n as u32),
@@ -81,7 +81,7 @@ pub fn id(word: &[u8]) -> Result<u32, ReadError>
 /// MODE: one to four octal digits.
 #[tactic(auto, unfolding(crate::specs::Arguments::mode_of))]
 pub fn mode(word: &[u8]) -> Result<Mode, ReadError>
-    ensures { Reads (λ mode. mode) result (mode_of word.now) }
+    ensures { ReadsWord (λ mode. mode) result (mode_of word.now) }
 {
     let Some(n) = octal_mode(word) else {
         return Err(NOT_COMMAND);
@@ -95,7 +95,7 @@ pub fn mode(word: &[u8]) -> Result<Mode, ReadError>
 /// MAX: decimal, 1 to 1024.
 #[tactic(auto, unfolding(crate::specs::Arguments::page_size_of))]
 pub fn page_size(word: &[u8]) -> Result<PageSize, ReadError>
-    ensures { Reads (λ max. max) result (page_size_of word.now) }
+    ensures { ReadsWord (λ max. max) result (page_size_of word.now) }
 {
     let Some(n) = number(word, 10) else {
         return Err(NOT_COMMAND);
@@ -112,7 +112,7 @@ pub fn page_size(word: &[u8]) -> Result<PageSize, ReadError>
 /// NAME and TARGET: the bytes that the word stands for.
 #[tactic(auto, unfolding(crate::specs::Arguments::text_of))]
 pub fn text(alloc: Global, word: &[u8]) -> Result<Bytes, ReadError>
-    ensures { Gives (λ bytes. bytes) result (text_of word.now) }
+    ensures { GivesWord (λ bytes. bytes) result (text_of_word word.now) }
 {
     match unescaped(alloc, word)? {
         Some(bytes) => Ok(bytes),
@@ -123,7 +123,7 @@ pub fn text(alloc: Global, word: &[u8]) -> Result<Bytes, ReadError>
 /// NAME and TARGET, or two names: the bytes that both words stand for.
 #[tactic(auto, unfolding(crate::specs::Arguments::two_texts_of))]
 pub fn two_texts(alloc: Global, word: &[u8], other: &[u8]) -> Result<(Bytes, Bytes), ReadError>
-    ensures { Gives (λ both. both) result (two_texts_of word.now other.now) }
+    ensures { GivesWord (λ both. both) result (two_texts_of word.now other.now) }
 {
     match text(alloc, word) {
         Ok(bytes) => Ok((bytes, text(alloc, other)?)),
@@ -156,7 +156,7 @@ const LONG_NAME: ReadError = ReadError::Fault(Fault::BadWord(ENAMETOOLONG));
 /// The name that these bytes are, or the error number of bytes that are none.
 #[tactic(auto, unfolding(crate::specs::Arguments::name_of))]
 pub fn name(bytes: Bytes) -> Result<Name, ReadError>
-    ensures { Reads (λ name. name) result (name_of bytes) }
+    ensures { ReadsWord (λ name. name) result (name_of bytes) }
 {
     match Name::from_text(bytes) {
         Ok(name) => Ok(name),
@@ -171,7 +171,7 @@ pub fn name(bytes: Bytes) -> Result<Name, ReadError>
 #[inline(always)]
 #[tactic(auto, unfolding(crate::specs::Arguments::word_name_of))]
 pub fn word_name(alloc: Global, word: &[u8]) -> Result<Name, ReadError>
-    ensures { Gives (λ name. name) result (word_name_of word.now) }
+    ensures { GivesWord (λ name. name) result (word_name_of word.now) }
 {
     // mostly there is no escape, and then the name is made of the word itself, and moved less often
     if is_plain(word) {
@@ -184,7 +184,7 @@ pub fn word_name(alloc: Global, word: &[u8]) -> Result<Name, ReadError>
 #[inline(never)]
 #[tactic(auto, unfolding(crate::specs::Arguments::word_name_of))]
 fn escaped_name(alloc: Global, word: &[u8]) -> Result<Name, ReadError>
-    ensures { Gives (λ name. name) result (word_name_of word.now) }
+    ensures { GivesWord (λ name. name) result (word_name_of word.now) }
 {
     match text(alloc, word) {
         Ok(bytes) => name(bytes),
@@ -196,7 +196,7 @@ fn escaped_name(alloc: Global, word: &[u8]) -> Result<Name, ReadError>
 #[inline(always)]
 #[tactic(auto, unfolding(crate::specs::Arguments::name_of))]
 fn plain_name(alloc: Global, bytes: &[u8]) -> Result<Name, ReadError>
-    ensures { Gives (λ name. name) result (name_of bytes.now) }
+    ensures { GivesWord (λ name. name) result (name_of bytes.now) }
 {
     match Name::from_bytes(alloc, bytes) {
         Ok(name) => Ok(name),
@@ -209,7 +209,7 @@ fn plain_name(alloc: Global, bytes: &[u8]) -> Result<Name, ReadError>
 /// AFTER: none for `-` alone, else the name that the word stands for.
 #[tactic(auto, unfolding(crate::specs::Arguments::after_of))]
 pub fn after(alloc: Global, word: &[u8]) -> Result<Option<Name>, ReadError>
-    ensures name { Gives (λ name. name) result (after_of word.now) }
+    ensures name { GivesWord (λ name. name) result (after_of word.now) }
     ensures dash { OnErr result (is_dash word.now ≡ false) }
 {
     if is_dash(word) {
@@ -224,7 +224,7 @@ pub fn after(alloc: Global, word: &[u8]) -> Result<Option<Name>, ReadError>
 /// The target that these bytes are, or the error number of bytes that are none.
 #[tactic(auto, unfolding(crate::specs::Arguments::target_of))]
 pub fn target(alloc: Global, bytes: &[u8]) -> Result<Target, ReadError>
-    ensures { Gives (λ target. target) result (target_of bytes.now) }
+    ensures { GivesWord (λ target. target) result (target_of_word bytes.now) }
 {
     match Target::from_bytes(alloc, bytes) {
         Ok(target) => Ok(target),

@@ -1,13 +1,13 @@
 //! A number of words.
 ghost use Rattle.script_words.specs.Words.{words_of};
-ghost use Rattle.script_words.specs.Reading.{Reads, first, four, none, one, two, three};
+ghost use Rattle.script_words.specs.Reading.{ReadsWord, first_word, four, none, one, two, three};
 
 use crate::faults::{NOT_COMMAND, ReadError};
 use crate::words::next_word;
 
 /// The first word, and what follows it.
 pub fn first(words: &[u8]) -> Result<(&[u8], &[u8]), ReadError>
-    ensures { Reads (λ w. (w.0.now, words_of w.1.now)) result (first (words_of words.now)) }
+    ensures { ReadsWord (λ w. (w.0.now, words_of w.1.now)) result (first_word (words_of words.now)) }
 {
     match next_word(words) {
         Some(split) => Ok(split),
@@ -17,7 +17,7 @@ pub fn first(words: &[u8]) -> Result<(&[u8], &[u8]), ReadError>
 
 /// No further word.
 pub fn none(words: &[u8]) -> Result<(), ReadError>
-    ensures { Reads (λ w. w) result (none (words_of words.now)) }
+    ensures { ReadsWord (λ w. w) result (none (words_of words.now)) }
 {
     match next_word(words) {
         None => Ok(()),
@@ -27,7 +27,7 @@ pub fn none(words: &[u8]) -> Result<(), ReadError>
 
 /// Exactly one word.
 pub fn one(words: &[u8]) -> Result<&[u8], ReadError>
-    ensures { Reads (λ w. w.now) result (one (words_of words.now)) }
+    ensures { ReadsWord (λ w. w.now) result (one (words_of words.now)) }
 {
     let Some((first, rest)) = next_word(words) else {
         return Err(NOT_COMMAND);
@@ -40,7 +40,7 @@ pub fn one(words: &[u8]) -> Result<&[u8], ReadError>
 
 /// Exactly two words.
 pub fn two(words: &[u8]) -> Result<(&[u8], &[u8]), ReadError>
-    ensures { Reads (λ w. (w.0.now, w.1.now)) result (two (words_of words.now)) }
+    ensures { ReadsWord (λ w. (w.0.now, w.1.now)) result (two (words_of words.now)) }
 {
     let Some((first, rest)) = next_word(words) else {
         return Err(NOT_COMMAND);
@@ -56,7 +56,7 @@ pub fn two(words: &[u8]) -> Result<(&[u8], &[u8]), ReadError>
 
 /// Exactly three words.
 pub fn three(words: &[u8]) -> Result<(&[u8], &[u8], &[u8]), ReadError>
-    ensures { Reads (λ w. (w.0.now, w.1.now, w.2.now)) result (three (words_of words.now)) }
+    ensures { ReadsWord (λ w. (w.0.now, w.1.now, w.2.now)) result (three (words_of words.now)) }
 {
     let Some((first, rest)) = next_word(words) else {
         return Err(NOT_COMMAND);
@@ -75,7 +75,7 @@ pub fn three(words: &[u8]) -> Result<(&[u8], &[u8], &[u8]), ReadError>
 
 /// Exactly four words.
 pub fn four(words: &[u8]) -> Result<(&[u8], &[u8], &[u8], &[u8]), ReadError>
-    ensures { Reads (λ w. (w.0.now, w.1.now, w.2.now, w.3.now)) result (four (words_of words.now)) }
+    ensures { ReadsWord (λ w. (w.0.now, w.1.now, w.2.now, w.3.now)) result (four (words_of words.now)) }
 {
     let Some((first, rest)) = next_word(words) else {
         return Err(NOT_COMMAND);

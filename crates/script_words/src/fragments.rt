@@ -1,7 +1,7 @@
 //! Fragments in words, and the number of bits of a split.
 ghost use Rattle.std.specs.Prelude.{◌≡◌, ◌*◌, ◌^◌, ◌<◌, ◌≤◌};
 ghost use Rattle.mds_types.specs.Frag.{span};
-ghost use Rattle.script_words.specs.Reading.{Reads};
+ghost use Rattle.script_words.specs.Reading.{ReadsWord};
 ghost use Rattle.script_words.specs.Fragments.{frag_of, fragment_of_digits, split_bits_of};
 
 use crate::faults::{NOT_COMMAND, ReadError};
@@ -14,7 +14,7 @@ const FRAG_DIGITS: usize = 24;
 /// FRAG: up to 24 digits 0 or 1, and a star.
 #[tactic(auto, unfolding(crate::specs::Fragments::frag_of))]
 pub fn frag(word: &[u8]) -> Result<Frag, ReadError>
-    ensures { Reads (λ frag. frag) result (frag_of word.now) }
+    ensures { ReadsWord (λ frag. frag) result (frag_of word.now) }
 {
     let [digits @ .., b'*'] = word else {
         return Err(NOT_COMMAND);
@@ -51,7 +51,7 @@ fn justified(number: u64, bits: u8) -> u32
 /// NB: decimal, 0 to 255.
 #[tactic(auto, unfolding(crate::specs::Fragments::split_bits_of))]
 pub fn split_bits(word: &[u8]) -> Result<u8, ReadError>
-    ensures { Reads (λ bits. bits) result (split_bits_of word.now) }
+    ensures { ReadsWord (λ bits. bits) result (split_bits_of word.now) }
 {
     match number(word, 10) {
         Some(n) if n <= 255 => Ok(n as u8),

@@ -10,7 +10,7 @@ pub use Rattle.reply_codec.proofs.ValueLaws.{reads_reply}
 pub use Rattle.reply_codec.specs.Reading.{bytes_at, counted_at}
 pub use Rattle.reply_codec.specs.ReplyBytes.{IsReply, SpellsReply, counted_bytes, reply_bytes}
 pub use Rattle.reply_codec.specs.Values.{reply_from}
-pub use Rattle.session_rows.specs.ClientRows.{Ascend, IsBroken, IsNoRow, IsRow, IsTold, IsNotRead, MayKeep, ReadsRow, ReadsTold, Row, SpellsRow, next_from, next_number, row_bytes, told_bytes, with_next_told, wrong_text, wrong_told}
+pub use Rattle.session_rows.specs.ClientRows.{Ascend, IsBroken, IsNoRow, IsRow, IsTold, IsNotRead, MayKeep, ReadsRow, ReadsTold, StoredClient, SpellsRow, next_from, next_number, row_bytes, told_bytes, with_next_told, wrong_text, wrong_told}
 pub use Rattle.session_rows.specs.declared.faults.RowFault.{RowFault}
 pub use Rattle.session_rows.specs.declared.faults.RowFault.TheVariants.{BelowMark, Length, NoMemory, NoReply, OtherRange, OutOfOrder}
 pub use Rattle.session_rows.specs.declared.told.Told.{Told}

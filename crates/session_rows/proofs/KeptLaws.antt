@@ -13,7 +13,7 @@ use Rattle.mds_types.proofs.ByteOrderLaws.{equal}
 use Rattle.mds_types.specs.declared.entries.Entry.{Entry}
 use Rattle.sessions.proofs.ReplyLaws.{sorted_entries, sorted_replies}
 use Rattle.sessions.specs.Replies.{kept_replies, replies_at}
-use Rattle.sessions.specs.Table.{IsKeptFor, IsTableOf, Table, kept_in, mark_in, row_in}
+use Rattle.sessions.specs.Table.{IsReplyPlace, IsTableOf, Table, kept_in, mark_in, row_in}
 use Rattle.session_rows.specs.Sessions.{told_entry}
 
 below : (x y : ℕ) → is_lt (nat_cmp x y) ≡ true → x < y
@@ -53,7 +53,7 @@ kept_ascend past history table client h =
     first [] e = tt
     first (x ∷ es) e =
         let found : kept_in table client x.0 ≡ Some x.1 = get-entries kept x.0 ∙ ap (find nat_cmp x.0) e ∙ (λ i. cond_first i) in
-        let is : IsKeptFor (past ++ history) client x.0 (Some x.1) = subst (IsKeptFor (past ++ history) client x.0) found (h.replies client x.0) in
+        let is : IsReplyPlace (past ++ history) client x.0 (Some x.1) = subst (IsReplyPlace (past ++ history) client x.0) found (h.replies client x.0) in
         omega (arith, is.0, h.marks client)
       where
         cond_first : find nat_cmp x.0 (x ∷ es) ≡ Some x.1

@@ -1,5 +1,5 @@
 -- Rows say one thing, and what they say is read again.
-use Rattle.session_rows.proofs.Common.{Bool, Err, List, None, Option, Reply, Row, RowFault, Some, Told, [], ap, arith, cond, false, inl, inr, is_ok, little_bytes, none-some, refl, row_bytes, same_Some, sym, true, ℕ, ◌<◌, ◌^◌, ◌∙◌, ◌∷◌, ◌≡◌}
+use Rattle.session_rows.proofs.Common.{Bool, Err, List, None, Option, Reply, StoredClient, RowFault, Some, Told, [], ap, arith, cond, false, inl, inr, is_ok, little_bytes, none-some, refl, row_bytes, same_Some, sym, true, ℕ, ◌<◌, ◌^◌, ◌∙◌, ◌∷◌, ◌≡◌}
 use Rattle.std.proofs.Common.{eqb-true, map, ◌==◌}
 use Rattle.std.proofs.lemmas.Bool.{false≢true}
 use Rattle.std.proofs.lemmas.List.{ext_get_or}
@@ -32,7 +32,7 @@ untold_again (r ∷ rs) = ap (λ (l : List (ℕ × Reply)). r ∷ l) (untold_aga
 
 same_stored : (a b : Stored) → a.client ≡ b.client → row_of a ≡ row_of b → a ≡ b
 same_stored a b clients rows =
-    let replies : a.replies ≡ b.replies = sym (untold_again a.replies) ∙ ap (λ (row : Row). map (λ (t : Told). (t.tid, t.reply)) row.replies) rows ∙ untold_again b.replies in
+    let replies : a.replies ≡ b.replies = sym (untold_again a.replies) ∙ ap (λ (row : StoredClient). map (λ (t : Told). (t.tid, t.reply)) row.replies) rows ∙ untold_again b.replies in
     λ i. record { client = clients i; mark = (rows i).mark; replies = replies i }
 
 of_client : (ss : List Stored) (client : ℕ) (s : Stored) → stored_of ss client ≡ Some s → s.client ≡ client

@@ -1,5 +1,5 @@
 -- One row more is read.
-use Rattle.session_rows.proofs.Common.{inr, Bool, IsRow, List, None, Option, Row, Some, SpellsRow, Told, [], ap, arith, cond, false, length, none-some, refl, row_bytes, subst, sym, true, ℕ, ◌++◌, ◌<◌, ◌^◌, ◌∙◌, ◌∷◌, ◌≡◌}
+use Rattle.session_rows.proofs.Common.{inr, Bool, IsRow, List, None, Option, StoredClient, Some, SpellsRow, Told, [], ap, arith, cond, false, length, none-some, refl, row_bytes, subst, sym, true, ℕ, ◌++◌, ◌<◌, ◌^◌, ◌∙◌, ◌∷◌, ◌≡◌}
 use Rattle.std.proofs.Common.{eq-eqb, eqb-true, get_or, is_some, map, set, ◌==◌}
 use Rattle.std.proofs.lemmas.Bool.{false≢true}
 use Rattle.std.proofs.lemmas.Grind.{get_or-set_at}
@@ -9,7 +9,7 @@ use Rattle.std.specs.FinMap as finmap
 use Rattle.mds_types.specs.declared.ids.Ino.{Ino}
 use Rattle.mds_types.specs.declared.ids.Rank.{Rank as RankNumber}
 use Rattle.sessions.proofs.StoredLaws.{none_of, stored_with}
-use Rattle.sessions.specs.Rooms.{Held, table}
+use Rattle.sessions.specs.Rooms.{HeldSessions, table}
 use Rattle.sessions.specs.Stored.{Stored, stored_of}
 use Rattle.session_rows.proofs.SessionSteps.{client_set, rank_set}
 use Rattle.session_rows.specs.Keys.{client_bytes, rank_bytes}
@@ -48,7 +48,7 @@ told_again : (xs : List Told) → map told_entry (map (λ (t : Told). (t.tid, t.
 told_again [] = refl
 told_again (x ∷ xs) = ap (λ (l : List Told). x ∷ l) (told_again xs)
 
-row_again : (client : ℕ) (row : Row) → row_of (stored_from client row) ≡ row
+row_again : (client : ℕ) (row : StoredClient) → row_of (stored_from client row) ≡ row
 row_again client row = λ i. record { mark = row.mark; replies = told_again row.replies i }
 
 none_stored : (o : Option Stored) → client_value o ≡ None → o ≡ None
@@ -62,7 +62,7 @@ may_take client old fits may = record {
   absent = none_stored (stored_of may.known.stored client) (sym (may.known.spelled.clients client fits) ∙ may.absent);
 }
 
-pub client_read : (client : ℕ) (value : List ℕ) (old : Restored) (new : Held) (row : Row) → client < 2 ^ 64 → MayRead (client_bytes client) old → SpellsRow value row → RestoresRow client row (table old.sessions) (table new)
+pub client_read : (client : ℕ) (value : List ℕ) (old : Restored) (new : HeldSessions) (row : StoredClient) → client < 2 ^ 64 → MayRead (client_bytes client) old → SpellsRow value row → RestoresRow client row (table old.sessions) (table new)
     → new.changed ≡ old.sessions.changed → ReadsMore (client_bytes client) value old (record { sessions = new; nexts = old.nexts })
 client_read client value old new row fits may s takes changed rows is =
     let m = may_take client old fits may in
@@ -85,5 +85,5 @@ ok_of (Ok x) b is never p = p
 ok_of (Err e) b is never p = absurd (false≢true (sym never ∙ is))
 
 -- memory is wanting for a row that was read
-pub row_wanting : (client : ℕ) (value : List ℕ) (row : Row) → client < 2 ^ 64 → SpellsRow value row → RefusesRow (client_bytes client) value NoMemory
+pub row_wanting : (client : ℕ) (value : List ℕ) (row : StoredClient) → client < 2 ^ 64 → SpellsRow value row → RefusesRow (client_bytes client) value NoMemory
 row_wanting client value row fits s = (client, record { known = fits; spelled = refl }, inr (row, s))

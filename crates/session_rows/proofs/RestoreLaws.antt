@@ -16,7 +16,7 @@ use Rattle.objstore.specs.Omap.{key_cmp}
 use Rattle.keeping.specs.Rows.{SessionRows}
 use Rattle.sessions.proofs.RestoredLaws.{restored_none}
 use Rattle.sessions.specs.Restored.{IsRestored}
-use Rattle.sessions.specs.Rooms.{Held, table}
+use Rattle.sessions.specs.Rooms.{HeldSessions, table}
 use Rattle.sessions.specs.Table.{no_table}
 use Rattle.session_rows.specs.Keys.{client_bytes, rank_bytes}
 use Rattle.session_rows.specs.Restoring.{IsRestoredOf, MayRead, ReadsMore, RefusesRow, RefusesRows, RestoresRows}
@@ -152,7 +152,7 @@ sixteen_none i = zeros sixteen i (refl, (refl, (refl, (refl, (refl, (refl, (refl
     zeros (x ∷ xs) zero (first, all) = first
     zeros (x ∷ xs) (suc i) (first, all) = zeros xs i all
 
-pub read_first : (rows : SessionRows) (sessions : Held) (rest : List Pair) → table sessions ≡ no_table → sessions.changed ≡ [] → rest ≡ finmap.entries rows
+pub read_first : (rows : SessionRows) (sessions : HeldSessions) (rest : List Pair) → table sessions ≡ no_table → sessions.changed ≡ [] → rest ≡ finmap.entries rows
     → IsReadSoFar rows (record { sessions = sessions; nexts = sixteen }) rest
 read_first rows sessions rest empty unchanged all = read_none rows (record { sessions = sessions; nexts = sixteen }) rest empty unchanged refl sixteen_none all
 

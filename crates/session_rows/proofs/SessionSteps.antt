@@ -11,7 +11,7 @@ use Rattle.std.specs.declared.cmp.Ordering.TheVariants.{Equal, Greater, Less}
 use Rattle.byteorder.specs.Numbers.{length-bytes_high_first}
 use Rattle.mds_types.specs.declared.ids.Rank.{Rank as RankNumber}
 use Rattle.objstore.specs.Omap.{key_cmp}
-use Rattle.keeping.specs.Rows.{SessionRows, with_value}
+use Rattle.keeping.specs.Rows.{SessionRows, with_row_value}
 use Rattle.sessions.specs.Stored.{Stored, stored_of}
 use Rattle.session_rows.proofs.KeyOrder.{eight_in_order}
 use Rattle.session_rows.specs.Keys.{client_bytes, rank_bytes}
@@ -21,7 +21,7 @@ use Rattle.session_rows.specs.declared.keys.Key.TheVariants.{Client, Rank}
 
 -- ---- keys
 
-pub got_with : (value : Option (List ℕ)) (key q : List ℕ) (rows : SessionRows) → finmap.get (with_value value key rows) q ≡ cond (eq_by_cmp key_cmp q key) value (finmap.get rows q)
+pub got_with : (value : Option (List ℕ)) (key q : List ℕ) (rows : SessionRows) → finmap.get (with_row_value value key rows) q ≡ cond (eq_by_cmp key_cmp q key) value (finmap.get rows q)
 got_with None key q rows = get-remove nat_list_cmp_total rows key q
 got_with (Some value) key q rows = get-insert nat_list_cmp_total rows key value q
 
@@ -59,10 +59,10 @@ module _ (rows : SessionRows) (stored new : List Stored) (nexts : List ℕ) (cli
   storable_by q true e = subst (λ (c : ℕ). IsStorable c found) (sym (eqb-true q client e)) can
   storable_by q false e = is.storable q
 
-  others_stay : (q : List ℕ) → (q ≡ client_bytes client → ⊥) → finmap.get (with_value (client_value found) (client_bytes client) rows) q ≡ finmap.get rows q
+  others_stay : (q : List ℕ) → (q ≡ client_bytes client → ⊥) → finmap.get (with_row_value (client_value found) (client_bytes client) rows) q ≡ finmap.get rows q
   others_stay q other = got_with (client_value found) (client_bytes client) q rows ∙ ap (λ (b : Bool). cond b (client_value found) (finmap.get rows q)) (apart q (client_bytes client) other)
 
-  pub client_set : SpellsSessions (with_value (client_value found) (client_bytes client) rows) new nexts
+  pub client_set : SpellsSessions (with_row_value (client_value found) (client_bytes client) rows) new nexts
   client_set = record {
     clients = λ q low.
         got_with (client_value found) (client_bytes client) (client_bytes q) rows

@@ -7,7 +7,7 @@ use Rattle.std.specs.Cmp.{nat_eq_equiv}
 use Rattle.std.specs.FinMap as finmap
 use Rattle.mds_types.specs.declared.entries.Entry.{Entry}
 use Rattle.mds_types.specs.declared.ids.Rank.{Rank as RankNumber}
-use Rattle.keeping.specs.Rows.{SessionRows, edited, with_value}
+use Rattle.keeping.specs.Rows.{SessionRows, rows_after_edits, with_row_value}
 use Rattle.keeping.specs.declared.rows.RowEdit.{RowEdit}
 use Rattle.sessions.proofs.ChangedLaws.{among_more}
 use Rattle.sessions.specs.Restored.{row_stored}
@@ -65,9 +65,9 @@ kept_is_of history table client = go (finmap.get table.rows client)
 
 -- ---- one edit more
 
-edited_more : (edits : List RowEdit) (edit : RowEdit) (rows : SessionRows) → edited (edits ++ edit ∷ []) rows ≡ with_value edit.value edit.key (edited edits rows)
+edited_more : (edits : List RowEdit) (edit : RowEdit) (rows : SessionRows) → rows_after_edits (edits ++ edit ∷ []) rows ≡ with_row_value edit.value edit.key (rows_after_edits edits rows)
 edited_more [] edit rows = refl
-edited_more (e ∷ es) edit rows = edited_more es edit (with_value e.value e.key rows)
+edited_more (e ∷ es) edit rows = edited_more es edit (with_row_value e.value e.key rows)
 
 pub no_edits : (history : List Entry) (table : Table) → WritesSessions history table [] [] []
 no_edits history table rows stored before is = record { new = stored; spelled = is; anew = λ q. refl }
@@ -76,14 +76,14 @@ pub one_client : (history : List Entry) (table : Table) (changed : List ℕ) (ed
     → edit.value ≡ client_value (kept_row history table client) → IsStorable client (kept_row history table client) → WritesSessions history table changed [] edits
     → WritesSessions history table (changed ++ client ∷ []) [] (edits ++ edit ∷ [])
 one_client history table changed edits client edit fits key value can writes rows stored before is =
-    let w : WritesClients history table changed stored (edited edits rows) before = writes rows stored before is in
+    let w : WritesClients history table changed stored (rows_after_edits edits rows) before = writes rows stored before is in
     let found = kept_row history table client in
     let new = with_stored found client w.new in
     let got : (q : ℕ) → stored_of new q ≡ cond (q == client) found (stored_of w.new q) = λ q. got_stored found client w.new q (kept_is_of history table client) in
-    let spelled = client_set (edited edits rows) w.new new before client found w.spelled fits can got in
+    let spelled = client_set (rows_after_edits edits rows) w.new new before client found w.spelled fits can got in
     record {
       new = new;
-      spelled = subst (λ (r : SessionRows). SpellsSessions r new before) (sym (edited_more edits edit rows ∙ (λ i. with_value (value i) (key i) (edited edits rows)))) spelled;
+      spelled = subst (λ (r : SessionRows). SpellsSessions r new before) (sym (edited_more edits edit rows ∙ (λ i. with_row_value (value i) (key i) (rows_after_edits edits rows)))) spelled;
       anew = λ q. got q ∙ ap (cond (q == client) found) (w.anew q) ∙ anew_by q (q == client) refl (is_among changed q) refl ∙ ap (λ (b : Bool). cond b (kept_row history table q) (stored_of stored q)) (sym (among_more changed client q));
     }
   where
@@ -135,7 +135,7 @@ pub one_rank : (history : List Entry) (table : Table) (changed nexts : List ℕ)
     → next ≡ get_or nexts i 0 → edit.key ≡ rank_bytes rank → edit.value ≡ Some (little_bytes 8 next) → WritesSessions history table changed (take i nexts) edits
     → WritesSessions history table changed (take (i + 1) nexts) (edits ++ edit ∷ [])
 one_rank history table changed nexts i edits rank next edit are low at its key value writes rows stored before is =
-    let w : WritesClients history table changed stored (edited edits rows) (with_nexts (take i nexts) before) = writes rows stored before is in
+    let w : WritesClients history table changed stored (rows_after_edits edits rows) (with_nexts (take i nexts) before) = writes rows stored before is in
     let old = with_nexts (take i nexts) before in
     let new = with_nexts (take (i + 1) nexts) before in
     let long : length new ≡ 16 = with_long (i + 1) nexts before (omega (arith, low)) (omega (arith, low, are.few, is.long)) ∙ is.long in
@@ -143,10 +143,10 @@ one_rank history table changed nexts i edits rank next edit are low at its key v
     subst (λ (n : ℕ). IsNextIno rank (record { 0 = n })) (ap (λ (k : ℕ). get_or nexts k 0) at ∙ sym its) (are.ranged rank (omega (arith, low, at))) in
     let got : (r : RankNumber) → r.0 < 16 → next_of new r ≡ cond (r.0 == rank.0) next (next_of old r) = λ r few.
     one_further i nexts before r.0 low (omega (arith, low, are.few, is.long)) ∙ (λ j. cond (r.0 == sym at j) (sym its j) (next_of old r)) in
-    let spelled = rank_set (edited edits rows) w.new old new rank next w.spelled (omega (arith, low, are.few, at)) own long got in
+    let spelled = rank_set (rows_after_edits edits rows) w.new old new rank next w.spelled (omega (arith, low, are.few, at)) own long got in
     record {
       new = w.new;
-      spelled = subst (λ (r : SessionRows). SpellsSessions r w.new new) (sym (edited_more edits edit rows ∙ (λ j. with_value (value j) (key j) (edited edits rows)))) spelled;
+      spelled = subst (λ (r : SessionRows). SpellsSessions r w.new new) (sym (edited_more edits edit rows ∙ (λ j. with_row_value (value j) (key j) (rows_after_edits edits rows)))) spelled;
       anew = w.anew;
     }
 

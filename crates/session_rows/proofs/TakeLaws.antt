@@ -1,5 +1,5 @@
 -- A client that is taken over with the replies of its row, one after the other.
-use Rattle.session_rows.proofs.Common.{Ascend, Bool, IsRow, List, None, Option, Reply, Row, Some, Told, [], ap, append-nil, append_assoc, arith, cond, false, next_from, refl, subst, sym, true, ℕ, ◌++◌, ◌+◌, ◌<◌, ◌∙◌, ◌∷◌, ◌≡◌, ◌≤◌}
+use Rattle.session_rows.proofs.Common.{Ascend, Bool, IsRow, List, None, Option, Reply, StoredClient, Some, Told, [], ap, append-nil, append_assoc, arith, cond, false, next_from, refl, subst, sym, true, ℕ, ◌++◌, ◌+◌, ◌<◌, ◌∙◌, ◌∷◌, ◌≡◌, ◌≤◌}
 use Rattle.std.proofs.Common.{eq-eqb, eqb-true, is_some, map, ◌==◌}
 use Rattle.std.proofs.lemmas.Bool.{false≢true}
 use Rattle.std.proofs.lemmas.List.{map-append}
@@ -40,22 +40,22 @@ none_beyond least (x ∷ xs) tid (first, up) low =
 
 -- ---- the replies so far
 
-abbrev begun : Row → List Told → Row
+abbrev begun : StoredClient → List Told → StoredClient
 begun row done = record { mark = row.mark; replies = done }
 
-pub record IsTaken (client : ℕ) (row : Row) (old now : Table) (rest : List Told) : Type 0 where
+pub record IsTaken (client : ℕ) (row : StoredClient) (old now : Table) (rest : List Told) : Type 0 where
   pub done : List Told
   pub whole : done ++ rest ≡ row.replies
   pub takes : RestoresRow client (begun row done) old now
 
-pub take_none : (client : ℕ) (row : Row) (old now : Table) (rest : List Told) → TakesClient old now client row.mark → rest ≡ row.replies → IsTaken client row old now rest
+pub take_none : (client : ℕ) (row : StoredClient) (old now : Table) (rest : List Told) → TakesClient old now client row.mark → rest ≡ row.replies → IsTaken client row old now rest
 take_none client row old now rest t e = record {
   done = [];
   whole = e;
   takes = λ stored h. subst (IsRestored (stored ++ of_mark client row.mark ∷ [])) (sym t.table) (restored_client stored old client row.mark h t.unknown);
 }
 
-module _ (client : ℕ) (row : Row) (old now : Table) (rest after : List Told) (told : Told) (is : IsRow row) (may : MayTake client old) (so : IsTaken client row old now rest) (next : rest ≡ told ∷ after) where
+module _ (client : ℕ) (row : StoredClient) (old now : Table) (rest after : List Told) (told : Told) (is : IsRow row) (may : MayTake client old) (so : IsTaken client row old now rest) (next : rest ≡ told ∷ after) where
   abbrev s : Stored
   s = stored_from client (begun row so.done)
 
@@ -93,7 +93,7 @@ module _ (client : ℕ) (row : Row) (old now : Table) (rest after : List Told) (
         (subst (IsRestored (stored ++ with_reply s told.tid told.reply ∷ [])) (sym t.table) (restored_reply stored s now told.tid told.reply (so.takes stored known) t.marked t.absent));
   }
 
-pub take_all : (client : ℕ) (row : Row) (old now : Table) (rest : List Told) → rest ≡ [] → IsTaken client row old now rest → RestoresRow client row old now
+pub take_all : (client : ℕ) (row : StoredClient) (old now : Table) (rest : List Told) → rest ≡ [] → IsTaken client row old now rest → RestoresRow client row old now
 take_all client row old now rest e so =
     let whole : so.done ≡ row.replies = sym (append-nil so.done) ∙ ap (λ (r : List Told). so.done ++ r) (sym e) ∙ so.whole in
     subst (λ (d : List Told). RestoresRow client (begun row d) old now) whole so.takes

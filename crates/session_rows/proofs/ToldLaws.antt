@@ -1,6 +1,6 @@
 -- A reply that is kept, with its transaction number: what is read is what the bytes spell, and what is written is read
 -- again.
-use Rattle.session_rows.proofs.Common.{IsBytes, IsBytes-drop, IsTold, List, Option, ReadsTold, Reply, Row, Some, None, SpellsReply, Takes, Takes-then, Told, [], ap, append_assoc, arith, bind_some, bytes_at, counted_at, counted_bytes, drop, drop_at, flat_map, flat_map-cons, guard_not, le-ltb, length, length-append, length-take, little_bytes, ltb, ltb-false, next_number, number_again, number_at, number_takes, one_reply, read_as, reads_reply, refl, reply_bytes, reply_from, same_Some, subst, sym, take, take-append-drop, take_at, told_bytes, width_4, width_8, with_next_told, wrong_told, false, ℕ, ◌++◌, ◌<◌, ◌>>=◌, ◌^◌, ◌∙◌, ◌∷◌, ◌≡◌, ◌≤◌}
+use Rattle.session_rows.proofs.Common.{IsBytes, IsBytes-drop, IsTold, List, Option, ReadsTold, Reply, StoredClient, Some, None, SpellsReply, Takes, Takes-then, Told, [], ap, append_assoc, arith, bind_some, bytes_at, counted_at, counted_bytes, drop, drop_at, flat_map, flat_map-cons, guard_not, le-ltb, length, length-append, length-take, little_bytes, ltb, ltb-false, next_number, number_again, number_at, number_takes, one_reply, read_as, reads_reply, refl, reply_bytes, reply_from, same_Some, subst, sym, take, take-append-drop, take_at, told_bytes, width_4, width_8, with_next_told, wrong_told, false, ℕ, ◌++◌, ◌<◌, ◌>>=◌, ◌^◌, ◌∙◌, ◌∷◌, ◌≡◌, ◌≤◌}
 use Rattle.session_rows.specs.ClientRows.{told_at}
 
 part_takes : (n : ℕ) (bytes x rest : List ℕ) → IsBytes bytes → bytes_at n bytes ≡ Some (x, rest) → (length x ≡ n) × Takes bytes x rest
@@ -37,7 +37,7 @@ told_takes bytes tid text rest fits read =
     (record { tid_fits = omega (arith, n.1); short = t.1; parts = (Takes-then bytes (little_bytes 8 a.0.0) a.0.1 (counted_bytes 4 b.0.0) b.0.1 n.0 t.0).parts })
 
 -- what is read is the reply that the bytes spell
-pub read_told : (row new : Row) (bytes : List ℕ) (tid : ℕ) (text rest : List ℕ) (reply : Reply) → IsBytes bytes → told_at bytes ≡ Some (tid, text, rest) → SpellsReply text reply → next_number row ≤ tid
+pub read_told : (row new : StoredClient) (bytes : List ℕ) (tid : ℕ) (text rest : List ℕ) (reply : Reply) → IsBytes bytes → told_at bytes ≡ Some (tid, text, rest) → SpellsReply text reply → next_number row ≤ tid
     → new ≡ with_next_told row (record { tid = tid; reply = reply }) → ReadsTold row bytes new rest
 read_told row new bytes tid text rest reply fits read said after e =
     let t = told_takes bytes tid text rest fits read in

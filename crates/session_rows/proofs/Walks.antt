@@ -1,5 +1,5 @@
 -- Bytes are read in one way: replies that are sound, up to the end of the bytes or to what is wrong.
-use Rattle.session_rows.proofs.Common.{AllByRecursion, Ascend, IsBroken, BelowMark, Err, IsNoRow, IsRow, IsTold, Length, List, NoMemory, NoReply, None, Ok, Option, OtherRange, OutOfOrder, ReadsRow, Result, Row, RowFault, Some, SpellsRow, Told, [], ap, append-nil, append_assoc, arith, flat_map, inl, inr, length, length-append, little_bytes, next_from, none-some, number_again, number_at, one_reply, refl, reply_bytes, row_bytes, same_Some, subst, sym, told_bytes, wrong_told, ℕ, ◌++◌, ◌+◌, ◌<◌, ◌∙◌, ◌⊎◌, ◌∷◌, ◌≡◌, ◌≤◌}
+use Rattle.session_rows.proofs.Common.{AllByRecursion, Ascend, IsBroken, BelowMark, Err, IsNoRow, IsRow, IsTold, Length, List, NoMemory, NoReply, None, Ok, Option, OtherRange, OutOfOrder, ReadsRow, Result, StoredClient, RowFault, Some, SpellsRow, Told, [], ap, append-nil, append_assoc, arith, flat_map, inl, inr, length, length-append, little_bytes, next_from, none-some, number_again, number_at, one_reply, refl, reply_bytes, row_bytes, same_Some, subst, sym, told_bytes, wrong_told, ℕ, ◌++◌, ◌+◌, ◌<◌, ◌∙◌, ◌⊎◌, ◌∷◌, ◌≡◌, ◌≤◌}
 use Rattle.session_rows.specs.ClientRows.{told_at}
 use Rattle.session_rows.proofs.ToldLaws.{first_told, none_told, nothing_wrong}
 
@@ -47,17 +47,17 @@ walk mark least (x ∷ xs) (y ∷ ys) r s a b low (first, known) (another, other
 -- ---- whole values
 
 -- a row, and what is left of bytes behind it
-record IsSplit (bytes : List ℕ) (row : Row) (rest : List ℕ) (out : Option RowFault) : Type 0 where
+record IsSplit (bytes : List ℕ) (row : StoredClient) (rest : List ℕ) (out : Option RowFault) : Type 0 where
   known : IsRow row
   parts : bytes ≡ row_bytes row ++ rest
   end : Ends row.mark (next_from row.mark row.replies) rest out
 
-mark_first : (bytes : List ℕ) (row : Row) (rest : List ℕ) → IsRow row → bytes ≡ row_bytes row ++ rest → number_at 8 bytes ≡ Some (row.mark, flat_map told_bytes row.replies ++ rest)
+mark_first : (bytes : List ℕ) (row : StoredClient) (rest : List ℕ) → IsRow row → bytes ≡ row_bytes row ++ rest → number_at 8 bytes ≡ Some (row.mark, flat_map told_bytes row.replies ++ rest)
 mark_first bytes row rest is e =
     let more = flat_map told_bytes row.replies in
     ap (number_at 8) (e ∙ append_assoc (little_bytes 8 row.mark) more rest) ∙ number_again 8 row.mark (more ++ rest) (omega (arith, is.mark))
 
-one_way : (bytes : List ℕ) (x y : Row) (r s : List ℕ) (a b : Option RowFault) → IsSplit bytes x r a → IsSplit bytes y s b → (x ≡ y) × (a ≡ b)
+one_way : (bytes : List ℕ) (x y : StoredClient) (r s : List ℕ) (a b : Option RowFault) → IsSplit bytes x r a → IsSplit bytes y s b → (x ≡ y) × (a ≡ b)
 one_way bytes x y r s a b p q =
     let read = same_Some (x.mark, flat_map told_bytes x.replies ++ r) (y.mark, flat_map told_bytes y.replies ++ s) (sym (mark_first bytes x r p.known p.parts) ∙ mark_first bytes y s q.known q.parts) in
     let marks : y.mark ≡ x.mark = ap (λ (w : ℕ × List ℕ). w.0) (sym read) in
@@ -67,19 +67,19 @@ one_way bytes x y r s a b p q =
     let same = walk x.mark x.mark x.replies y.replies r s a b (omega arith) p.known.told q.known.told p.known.ascend ups p.end end rests in
     ((λ i. record { mark = sym marks i; replies = same.0 i }), same.1)
 
-of_row : (bytes : List ℕ) (row : Row) → SpellsRow bytes row → IsSplit bytes row [] None
+of_row : (bytes : List ℕ) (row : StoredClient) → SpellsRow bytes row → IsSplit bytes row [] None
 of_row bytes row s = record { known = s.known; parts = s.spelled ∙ sym (append-nil (row_bytes row)); end = refl }
 
 of_broken : (bytes : List ℕ) (fault : RowFault) (b : IsBroken bytes fault) → IsSplit bytes b.front b.rest (Some fault)
 of_broken bytes fault b = record { known = b.known; parts = b.parts; end = (b.more, b.wrong) }
 
-pub one_row : (bytes : List ℕ) (a b : Row) → SpellsRow bytes a → SpellsRow bytes b → a ≡ b
+pub one_row : (bytes : List ℕ) (a b : StoredClient) → SpellsRow bytes a → SpellsRow bytes b → a ≡ b
 one_row bytes a b s t = (one_way bytes a b [] [] None None (of_row bytes a s) (of_row bytes b t)).0
 
-marked : (bytes : List ℕ) (row : Row) (rest : List ℕ) → bytes ≡ row_bytes row ++ rest → length bytes < 8 → ⊥
+marked : (bytes : List ℕ) (row : StoredClient) (rest : List ℕ) → bytes ≡ row_bytes row ++ rest → length bytes < 8 → ⊥
 marked bytes row rest e short = omega (arith, ap length e, length-append (row_bytes row) rest, length-append (little_bytes 8 row.mark) (flat_map told_bytes row.replies), short)
 
-pub no_row_spelled : (bytes : List ℕ) (fault : RowFault) (row : Row) → IsNoRow bytes fault → SpellsRow bytes row → ⊥
+pub no_row_spelled : (bytes : List ℕ) (fault : RowFault) (row : StoredClient) → IsNoRow bytes fault → SpellsRow bytes row → ⊥
 no_row_spelled bytes fault row (inl p) s = marked bytes row [] (s.spelled ∙ sym (append-nil (row_bytes row))) p.0
 no_row_spelled bytes fault row (inr b) s = none-some fault (one_way bytes row b.front [] b.rest None (Some fault) (of_row bytes row s) (of_broken bytes fault b)).1
 
@@ -89,8 +89,8 @@ one_reason bytes a b (inl p) (inr q) = absurd (marked bytes q.front q.rest q.par
 one_reason bytes a b (inr p) (inl q) = absurd (marked bytes p.front p.rest p.parts q.0)
 one_reason bytes a b (inr p) (inr q) = same_Some a b (one_way bytes p.front q.front p.rest q.rest (Some a) (Some b) (of_broken bytes a p) (of_broken bytes b q)).1
 
-pub row_again : (bytes : List ℕ) (row : Row) (answer : Result Row RowFault) → SpellsRow bytes row → ReadsRow bytes answer → (answer ≡ Ok row) ⊎ (answer ≡ Err NoMemory)
-row_again bytes row (Ok read) s r = inl (ap (λ (x : Row). Ok x) (one_row bytes read row r s))
+pub row_again : (bytes : List ℕ) (row : StoredClient) (answer : Result StoredClient RowFault) → SpellsRow bytes row → ReadsRow bytes answer → (answer ≡ Ok row) ⊎ (answer ≡ Err NoMemory)
+row_again bytes row (Ok read) s r = inl (ap (λ (x : StoredClient). Ok x) (one_row bytes read row r s))
 row_again bytes row (Err NoMemory) s r = inr refl
 row_again bytes row (Err Length) s r = absurd (no_row_spelled bytes Length row r s)
 row_again bytes row (Err BelowMark) s r = absurd (no_row_spelled bytes BelowMark row r s)

@@ -1,15 +1,15 @@
 -- A row that is written reply by reply, of replies whose numbers ascend.
-use Rattle.session_rows.proofs.Common.{Ascend, List, Reply, Row, SpellsRow, Told, [], ap, append-nil, append_assoc, next_from, next_number, refl, subst, sym, with_next_told, ℕ, ◌++◌, ◌+◌, ◌∙◌, ◌∷◌, ◌≡◌, ◌≤◌}
+use Rattle.session_rows.proofs.Common.{Ascend, List, Reply, StoredClient, SpellsRow, Told, [], ap, append-nil, append_assoc, next_from, next_number, refl, subst, sym, with_next_told, ℕ, ◌++◌, ◌+◌, ◌∙◌, ◌∷◌, ◌≡◌, ◌≤◌}
 use Rattle.std.proofs.Common.{map}
 use Rattle.session_rows.specs.Sessions.{told_entry}
 
 -- a row with these replies behind its own
-abbrev pub with_all : Row → List Told → Row
+abbrev pub with_all : StoredClient → List Told → StoredClient
 with_all row told = record { mark = row.mark; replies = row.replies ++ told }
 
 -- the row so far, and the replies to come
 pub record IsWritten (mark : ℕ) (all rest : List (ℕ × Reply)) (bytes : List ℕ) : Type 0 where
-  pub row : Row
+  pub row : StoredClient
   pub spelled : SpellsRow bytes row
   pub ascend : Ascend (next_number row) (map told_entry rest)
   pub whole : with_all row (map told_entry rest) ≡ record { mark = mark; replies = map told_entry all }
@@ -23,7 +23,7 @@ next_more least [] x = refl
 next_more least (y ∷ ys) x = next_more (y.tid + 1) ys x
 
 pub write_one : (mark : ℕ) (all rest after : List (ℕ × Reply)) (bytes new : List ℕ) (tid : ℕ) (reply : Reply) → rest ≡ (tid, reply) ∷ after
-    → ((row : Row) → SpellsRow bytes row → next_number row ≤ tid → SpellsRow new (with_next_told row (record { tid = tid; reply = reply }))) → IsWritten mark all rest bytes → IsWritten mark all after new
+    → ((row : StoredClient) → SpellsRow bytes row → next_number row ≤ tid → SpellsRow new (with_next_told row (record { tid = tid; reply = reply }))) → IsWritten mark all rest bytes → IsWritten mark all after new
 write_one mark all rest after bytes new tid reply e push is =
     let told : Told = record { tid = tid; reply = reply } in
     let up : Ascend (next_number is.row) (told ∷ map told_entry after) = subst (λ (r : List (ℕ × Reply)). Ascend (next_number is.row) (map told_entry r)) e is.ascend in

@@ -12,7 +12,7 @@ use Rattle.session_rows.specs.declared.faults.RowFault.TheVariants.{BelowMark, L
 use Rattle.session_rows.specs.declared.told.Told.{Told}
 
 -- what is kept of a client: its mark, and the replies to its transaction numbers
-pub record Row : Type 0 where
+pub record StoredClient : Type 0 where
   pub mark : ℕ
   pub replies : List Told
 
@@ -30,7 +30,7 @@ Ascend least [] = Unit {0}
 Ascend least (told ∷ more) = (least ≤ told.tid) × Ascend (told.tid + 1) more
 
 -- a row: no reply is below the mark, and transaction numbers ascend
-pub record IsRow (row : Row) : Type 0 where
+pub record IsRow (row : StoredClient) : Type 0 where
   pub mark : row.mark < 2 ^ 64
   pub told : AllByRecursion IsTold row.replies
   pub ascend : Ascend row.mark row.replies
@@ -42,22 +42,22 @@ abbrev pub told_bytes : Told → List ℕ
 told_bytes told = little_bytes 8 told.tid ++ counted_bytes 4 (reply_bytes told.reply)
 
 -- a row: its mark, and each reply
-abbrev pub row_bytes : Row → List ℕ
+abbrev pub row_bytes : StoredClient → List ℕ
 row_bytes row = little_bytes 8 row.mark ++ flat_map told_bytes row.replies
 
 -- the grammar of a client's value
-pub record SpellsRow (bytes : List ℕ) (row : Row) : Type 0 where
+pub record SpellsRow (bytes : List ℕ) (row : StoredClient) : Type 0 where
   pub known : IsRow row
   pub spelled : bytes ≡ row_bytes row
 
 -- ---- a row that is written reply by reply
 
 -- the row of a client of which no reply is kept
-abbrev pub no_replies : ℕ → Row
+abbrev pub no_replies : ℕ → StoredClient
 no_replies mark = record { mark = mark; replies = [] }
 
 -- the row with a reply more
-abbrev pub with_next_told : Row → Told → Row
+abbrev pub with_next_told : StoredClient → Told → StoredClient
 with_next_told row told = record row { replies = row.replies ++ told ∷ [] }
 
 -- the least transaction number that may follow these, which ascend from a least one on
@@ -66,7 +66,7 @@ next_from least [] = least
 next_from least (told ∷ more) = next_from (told.tid + 1) more
 
 -- the least transaction number whose reply may follow in a row
-abbrev pub next_number : Row → ℕ
+abbrev pub next_number : StoredClient → ℕ
 next_number row = next_from row.mark row.replies
 
 -- ---- what is no row
@@ -94,7 +94,7 @@ wrong_told mark least (Some told) =
 -- bytes that are no client's value, and why: they begin as the value of a row, which further bytes follow, and
 -- something is wrong with the first reply of these
 pub record IsBroken (bytes : List ℕ) (fault : RowFault) : Type 0 where
-  pub front : Row
+  pub front : StoredClient
   pub rest : List ℕ
   pub known : IsRow front
   pub parts : bytes ≡ row_bytes front ++ rest
@@ -106,21 +106,21 @@ abbrev pub IsNoRow : List ℕ → RowFault → Type 0
 IsNoRow bytes fault = ((length bytes < 8) × (fault ≡ Length)) ⊎ IsBroken bytes fault
 
 -- a further reply may be kept, whatever its bytes say: its transaction number and its bytes are there, and it may follow
-pub record MayKeep (row : Row) (rest : List ℕ) : Type 0 where
+pub record MayKeep (row : StoredClient) (rest : List ℕ) : Type 0 where
   pub told : ℕ × List ℕ × List ℕ
   pub there : told_at rest ≡ Some told
   pub follows : next_number row ≤ told.0
 
 -- bytes that begin as the value of a row, behind which a further reply may be kept: where memory may be wanting
 pub record WantsMemory (bytes : List ℕ) : Type 0 where
-  pub front : Row
+  pub front : StoredClient
   pub rest : List ℕ
   pub known : IsRow front
   pub parts : bytes ≡ row_bytes front ++ rest
   pub next : MayKeep front rest
 
 -- what reading a client's value answers: the row that it spells, or why it spells none, or that memory is wanting
-abbrev pub ReadsRow : List ℕ → Result Row RowFault → Type 0
+abbrev pub ReadsRow : List ℕ → Result StoredClient RowFault → Type 0
 ReadsRow bytes (Ok row) = SpellsRow bytes row
 ReadsRow bytes (Err NoMemory) = WantsMemory bytes
 ReadsRow bytes (Err Length) = IsNoRow bytes Length
@@ -132,7 +132,7 @@ ReadsRow bytes (Err OtherRange) = ⊥
 -- ---- words of the crate's own contracts
 
 -- a further reply is read of bytes, with the bytes after it
-pub record ReadsTold (row : Row) (bytes : List ℕ) (new : Row) (rest : List ℕ) : Type 0 where
+pub record ReadsTold (row : StoredClient) (bytes : List ℕ) (new : StoredClient) (rest : List ℕ) : Type 0 where
   pub told : Told
   pub known : IsTold told
   pub ascends : next_number row ≤ told.tid
@@ -140,7 +140,7 @@ pub record ReadsTold (row : Row) (bytes : List ℕ) (new : Row) (rest : List ℕ
   pub parts : bytes ≡ told_bytes told ++ rest
 
 -- why no further reply is read of bytes
-abbrev pub IsNotRead : Row → List ℕ → RowFault → Type 0
+abbrev pub IsNotRead : StoredClient → List ℕ → RowFault → Type 0
 IsNotRead row bytes NoMemory = MayKeep row bytes
 IsNotRead row bytes Length = wrong_told row.mark (next_number row) (told_at bytes) ≡ Some Length
 IsNotRead row bytes BelowMark = wrong_told row.mark (next_number row) (told_at bytes) ≡ Some BelowMark

@@ -6,7 +6,7 @@ use Rattle.sessions.specs.Restored.{IsRestored}
 use Rattle.sessions.specs.Rooms.{table}
 use Rattle.sessions.specs.Stored.{Stored, stored_of}
 use Rattle.sessions.specs.Table.{Table}
-use Rattle.session_rows.specs.ClientRows.{IsNoRow, Row, SpellsRow, WantsMemory}
+use Rattle.session_rows.specs.ClientRows.{IsNoRow, StoredClient, SpellsRow, WantsMemory}
 use Rattle.session_rows.specs.Keys.{SpellsRowKey}
 use Rattle.session_rows.specs.RankRows.{ReadsRank}
 use Rattle.session_rows.specs.Sessions.{IsNoKey, SpellsSessions}
@@ -17,7 +17,7 @@ use Rattle.session_rows.specs.declared.rows_faults.RowsFault.TheVariants.{Key, C
 
 -- a value of a client for which memory may be wanting: to read its replies, or to take over the row that it spells
 abbrev pub RowTakesMemory : (value : List ℕ) → Type 0
-RowTakesMemory value = WantsMemory value ⊎ ((row : Row) × SpellsRow value row)
+RowTakesMemory value = WantsMemory value ⊎ ((row : StoredClient) × SpellsRow value row)
 
 -- why a row is refused: its key is no key, or its value no value of that key, or memory is wanting for a client
 abbrev pub RefusesRow : (key value : List ℕ) → RowsFault → Type 0
@@ -64,11 +64,11 @@ pub record MayTake (client : ℕ) (now : Table) : Type 0 where
   pub absent : stored_of stored client ≡ None
 
 -- a client's row, as it is stored
-abbrev pub stored_from : (client : ℕ) → Row → Stored
+abbrev pub stored_from : (client : ℕ) → StoredClient → Stored
 stored_from client row =
     record { client = client; mark = row.mark; replies = map (λ t. (t.tid, t.reply)) row.replies }
 
 -- a client was taken over, with its replies
-abbrev pub RestoresRow : (client : ℕ) → Row → (old new : Table) → Type 0
+abbrev pub RestoresRow : (client : ℕ) → StoredClient → (old new : Table) → Type 0
 RestoresRow client row old new = (stored : List Stored) → IsRestored stored old
     → IsRestored (stored ++ stored_from client row ∷ []) new

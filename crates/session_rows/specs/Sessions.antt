@@ -6,11 +6,11 @@ use Rattle.mds_types.specs.declared.entries.Entry.{Entry}
 use Rattle.mds_types.specs.declared.ids.Rank.{Rank as RankNumber}
 use Rattle.mds_types.specs.declared.replies.Reply.{Reply}
 use Rattle.keeping.specs.declared.rows.RowEdit.{RowEdit}
-use Rattle.keeping.specs.Rows.{SessionRows, edited}
+use Rattle.keeping.specs.Rows.{SessionRows, rows_after_edits}
 use Rattle.sessions.specs.Restored.{IsStoredAnew, row_stored}
 use Rattle.sessions.specs.Stored.{Stored, stored_of}
 use Rattle.sessions.specs.Table.{Table}
-use Rattle.session_rows.specs.ClientRows.{IsRow, Row, row_bytes}
+use Rattle.session_rows.specs.ClientRows.{IsRow, StoredClient, row_bytes}
 use Rattle.session_rows.specs.Keys.{SpellsRowKey, client_bytes, rank_bytes}
 use Rattle.session_rows.specs.RankRows.{IsNextIno}
 use Rattle.session_rows.specs.declared.keys.Key.{Key}
@@ -23,7 +23,7 @@ abbrev pub told_entry : ℕ × Reply → Told
 told_entry reply = record { tid = reply.0; reply = reply.1 }
 
 -- the row of a client as it is stored
-abbrev pub row_of : Stored → Row
+abbrev pub row_of : Stored → StoredClient
 row_of stored = record { mark = stored.mark; replies = map told_entry stored.replies }
 
 -- the value of a client's row; none, where the client isn't stored
@@ -91,4 +91,4 @@ pub record WritesClients (history : List Entry) (table : Table) (changed : List 
 abbrev pub WritesSessions : List Entry → Table → (changed nexts : List ℕ) → List RowEdit → Type 0
 WritesSessions history table changed nexts edits = (rows : SessionRows) (stored : List Stored) (before : List ℕ)
     → SpellsSessions rows stored before
-    → WritesClients history table changed stored (edited edits rows) (with_nexts nexts before)
+    → WritesClients history table changed stored (rows_after_edits edits rows) (with_nexts nexts before)

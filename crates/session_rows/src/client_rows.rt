@@ -20,9 +20,9 @@ pub struct ClientRow {
 }
 
 impl Model for ClientRow {
-    ghost use Rattle.session_rows.specs.ClientRows.{Row};
+    ghost use Rattle.session_rows.specs.ClientRows.{StoredClient};
 
-    ghost Value = { Row };
+    ghost Value = { StoredClient };
 
     ghost view = { λ row. record { mark = row.mark; replies = row.replies.items } };
 }

@@ -15,7 +15,7 @@ ghost use Rattle.session_rows.specs.declared.faults.RowFault.TheVariants.{NoMemo
 ghost use Rattle.session_rows.specs.declared.restoring.Restored.{Restored};
 ghost use Rattle.session_rows.specs.declared.rows_faults.RowsFault.{RowsFault};
 ghost use Rattle.session_rows.specs.declared.rows_faults.RowsFault.TheVariants.{NoMemory as OutOfMemory};
-ghost use Rattle.session_rows.specs.ClientRows.{IsNoRow, ReadsRow, Row, SpellsRow};
+ghost use Rattle.session_rows.specs.ClientRows.{IsNoRow, ReadsRow, StoredClient, SpellsRow};
 ghost use Rattle.session_rows.specs.Keys.{SpellsRowKey, client_bytes};
 ghost use Rattle.session_rows.specs.RankRows.{ReadsRank, SpellsRank};
 ghost use Rattle.session_rows.specs.Restoring.{IsRestoredOf, RefusesRows};
@@ -34,10 +34,10 @@ pub fn keys_are_spelled_once()
 pub fn rows_are_spelled_once()
     ensures meaning { HasOneMeaning SpellsRow }
     ensures spelling { HasOneSpelling SpellsRow }
-    ensures broken { (bytes : List ℕ) (fault : RowFault) (row : Row) → IsNoRow bytes fault
+    ensures broken { (bytes : List ℕ) (fault : RowFault) (row : StoredClient) → IsNoRow bytes fault
         → SpellsRow bytes row → ⊥ }
     ensures reason { (bytes : List ℕ) (a b : RowFault) → IsNoRow bytes a → IsNoRow bytes b → a ≡ b }
-    ensures again { (bytes : List ℕ) (row : Row) (answer : Result Row RowFault) → SpellsRow bytes row
+    ensures again { (bytes : List ℕ) (row : StoredClient) (answer : Result StoredClient RowFault) → SpellsRow bytes row
         → ReadsRow bytes answer → (answer ≡ Ok row) ⊎ (answer ≡ Err NoMemory) }
 {}
 

@@ -2,7 +2,7 @@
 ghost use Rattle.std.specs.Prelude.{◌≡◌, ◌++◌, ◌≤◌, IfOk, OnOk, OnErr};
 ghost use Rattle.byteorder.specs.Endian.{little_bytes};
 ghost use Rattle.session_rows.specs.declared.told.Told.{Told as Kept};
-ghost use Rattle.session_rows.specs.ClientRows.{IsTold, Row, SpellsRow, next_number, no_replies, told_bytes, with_next_told};
+ghost use Rattle.session_rows.specs.ClientRows.{IsTold, StoredClient, SpellsRow, next_number, no_replies, told_bytes, with_next_told};
 
 use dirfrag_codec::fields::{put_u32, put_u64};
 use mds_types::Reply;
@@ -41,7 +41,7 @@ impl RowWriter {
     pub fn push(&mut self, tid: u64, reply: &Reply) -> Result<(), AllocError>
         ensures told { OnOk result (IsTold (record { tid = tid; reply = reply.now })) }
         ensures bytes { OnOk result (self.new ≡ self.old ++ told_bytes (record { tid = tid; reply = reply.now })) }
-        ensures row { OnOk result ((row : Row) → SpellsRow self.old row → next_number row ≤ tid
+        ensures row { OnOk result ((row : StoredClient) → SpellsRow self.old row → next_number row ≤ tid
             → SpellsRow self.new (with_next_told row (record { tid = tid; reply = reply.now }))) }
         ensures left { OnErr result (self.new ≡ self.old) }
     {

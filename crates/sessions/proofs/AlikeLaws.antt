@@ -1,5 +1,5 @@
 -- The history that clients were told answers each request as the one that it was stored of.
-use Rattle.sessions.proofs.Common.{refl, Bool, false, false≢true, is_from, le_from_is_le, nat_cmp, true, ArePairsOnce, Entry, IsAsideFor, IsKeptFor, IsRestored, IsStoredOf, List, None, Option, Reply, Some, Stored, Table, ap, arith, aside_in, cond, inl, inr, is_pair, is_some, kept_in, list_any, mark, reply_to, same_Some, stand_in, subst, sym, stand_ins, ℕ, ⊎_elim, ◌<◌, ◌∙◌, ◌≡◌, ◌≤◌}
+use Rattle.sessions.proofs.Common.{refl, Bool, false, false≢true, is_from, le_from_is_le, nat_cmp, true, ArePairsOnce, Entry, IsAsideFor, IsReplyPlace, IsRestored, IsStoredOf, List, None, Option, Reply, Some, Stored, Table, ap, arith, aside_in, cond, inl, inr, is_pair, is_some, kept_in, list_any, mark, reply_to, same_Some, stand_in, subst, sym, stand_ins, ℕ, ⊎_elim, ◌<◌, ◌∙◌, ◌≡◌, ◌≤◌}
 use Rattle.mds_types.specs.History.{IsNew}
 use Rattle.mds_types.specs.declared.replies.Reply.TheVariants.{Done}
 use Rattle.sessions.specs.Replies.{AnswerAlike}
@@ -12,7 +12,7 @@ module _ (stored : List Stored) (table : Table) (h : IsRestored stored table) wh
   told_aside : (q tid : ℕ) → mark (stand_ins stored) q ≤ tid → reply_to (stand_ins stored) q tid ≡ aside_in table q tid
   told_aside q tid low = go (kept_in table q tid) (aside_in table q tid) (h.tabled.replies q tid) (asides (stand_ins stored) table h.tabled h.aside q tid)
     where
-      go : (o : Option ℕ) (a : Option Reply) → IsKeptFor (stand_ins stored) q tid o → IsAsideFor (stand_ins stored) table.forgotten o a → reply_to (stand_ins stored) q tid ≡ a
+      go : (o : Option ℕ) (a : Option Reply) → IsReplyPlace (stand_ins stored) q tid o → IsAsideFor (stand_ins stored) table.forgotten o a → reply_to (stand_ins stored) q tid ≡ a
       go None None k s = none_replied q tid (stand_ins stored) (k low)
       go None (Some reply) k s = absurd s
       go (Some place) None (_, stands) s = absurd (omega (arith, stands.in_range, s, h.aside.before))
@@ -20,7 +20,7 @@ module _ (stored : List Stored) (table : Table) (h : IsRestored stored table) wh
           let d : Entry = stand_in 0 0 0 Done in reply_of_pair q tid (stand_ins stored) place d h.once stands ∙ ap Some (sym (is d))
 
   -- nothing is below a mark
-  above : (q tid : ℕ) (o : Option ℕ) (a : Option Reply) → IsKeptFor (stand_ins stored) q tid o → IsAsideFor (stand_ins stored) table.forgotten o a → is_from nat_cmp (mark (stand_ins stored) q) tid ≡ false → a ≡ None
+  above : (q tid : ℕ) (o : Option ℕ) (a : Option Reply) → IsReplyPlace (stand_ins stored) q tid o → IsAsideFor (stand_ins stored) table.forgotten o a → is_from nat_cmp (mark (stand_ins stored) q) tid ≡ false → a ≡ None
   above q tid None None k s below = refl
   above q tid None (Some reply) k s below = absurd s
   above q tid (Some place) a (low, stands) s below = absurd (false≢true (sym below ∙ is_from_le low))

@@ -1,5 +1,5 @@
 -- Laws of what is set aside: once a request was applied, and once entries are forgotten.
-use Rattle.sessions.proofs.Common.{AreSetAside, Bool, Entry, IsAsideFor, IsKeptFor, IsPairAt, IsTableOf, None, Option, Reply, Row, Some, Table, List, [], ap, ap₂, append_assoc, append-nil, arith, aside_in, cond, eq-eqb, eqb-true, false, false≢true, forget_all, forget_first, get-empty, get-insert, get-retain_keys, get_or-append_seam, get_or_append_left, is_kept_at, is_from, is_le, is_pair, keeps_first, kept_in, length, length-append, list_any, list_any_at, nat_eq_equiv, nat_cmp, nat_cmp-IsAntisymmetric, nat_cmp_total, none-some, no_table, noted, noted_row, refl, row_in, row_or_none, row_with_aside, rows_with_aside, slice_index_or, subst, sym, trimmed, trimmed_row, true, unsigned_tied, ℕ, ◌&&◌, ◌+◌, ◌++◌, ◌==◌, ◌∙◌, ◌∷◌, ◌≡◌, ◌≤◌}
+use Rattle.sessions.proofs.Common.{AreSetAside, Bool, Entry, IsAsideFor, IsReplyPlace, IsPairAt, IsTableOf, None, Option, Reply, Row, Some, Table, List, [], ap, ap₂, append_assoc, append-nil, arith, aside_in, cond, eq-eqb, eqb-true, false, false≢true, forget_all, forget_first, get-empty, get-insert, get-retain_keys, get_or-append_seam, get_or_append_left, is_kept_at, is_from, is_le, is_pair, keeps_first, kept_in, length, length-append, list_any, list_any_at, nat_eq_equiv, nat_cmp, nat_cmp-IsAntisymmetric, nat_cmp_total, none-some, no_table, noted, noted_row, refl, row_in, row_or_none, row_with_aside, rows_with_aside, slice_index_or, subst, sym, trimmed, trimmed_row, true, unsigned_tied, ℕ, ◌&&◌, ◌+◌, ◌++◌, ◌==◌, ◌∙◌, ◌∷◌, ◌≡◌, ◌≤◌}
 use Rattle.sessions.proofs.TableLaws.{row_after}
 use Rattle.std.specs.FinMap as map
 
@@ -28,7 +28,7 @@ still_aside whole e forgotten few (Some place) None h = h
 still_aside whole e forgotten few (Some place) (Some reply) (low, told) = (low, λ d. told d ∙ ap (λ (x : Entry). x.reply) (sym (get_or_append_left whole (e ∷ []) d place (omega (arith, low, few)))))
 
 module _ (whole : List Entry) (forgotten : ℕ) (few : forgotten ≤ length whole) (e : Entry) (row : Row) (fresh : list_any (is_pair e.client e.tid) whole ≡ false)
-    (kept : (t : ℕ) → IsKeptFor whole e.client t (map.get row.kept t)) (aside : (t : ℕ) → IsAsideFor whole forgotten (map.get row.kept t) (map.get row.aside t)) where
+    (kept : (t : ℕ) → IsReplyPlace whole e.client t (map.get row.kept t)) (aside : (t : ℕ) → IsAsideFor whole forgotten (map.get row.kept t) (map.get row.aside t)) where
   abbrev after : Row
   after = trimmed_row (noted_row row e.tid e.oldest (length whole))
 
@@ -39,7 +39,7 @@ module _ (whole : List Entry) (forgotten : ℕ) (few : forgotten ≤ length whol
   none_yet : (t : ℕ) → t ≡ e.tid → map.get row.aside t ≡ None
   none_yet t same = go (map.get row.kept t) (map.get row.aside t) (kept t) (aside t)
     where
-      go : (o : Option ℕ) (a : Option Reply) → IsKeptFor whole e.client t o → IsAsideFor whole forgotten o a → a ≡ None
+      go : (o : Option ℕ) (a : Option Reply) → IsReplyPlace whole e.client t o → IsAsideFor whole forgotten o a → a ≡ None
       go None None k h = refl
       go None (Some reply) k h = absurd h
       go (Some place) a (_, stands) h = absurd (false≢true (sym fresh ∙ list_any_at (is_pair e.client e.tid) whole place e stands.in_range (subst (λ n. is_pair e.client n (slice_index_or whole place e) ≡ true) same (stands.pair e))))
@@ -123,7 +123,7 @@ aside_forgot table e q tid = ap (λ (r : Row). map.get r.aside tid) (row_forgot 
 pub table_forgot : (history : List Entry) (table : Table) (e : Entry) → IsTableOf history table → IsTableOf history (forget_first table e)
 table_forgot history table e h = record {
   marks = λ q. mark_forgot table e q ∙ h.marks q;
-  replies = λ q tid. subst (IsKeptFor history q tid) (sym (kept_forgot table e q tid)) (h.replies q tid);
+  replies = λ q tid. subst (IsReplyPlace history q tid) (sym (kept_forgot table e q tid)) (h.replies q tid);
 }
 
 module _ (past : List Entry) (e : Entry) (rest : List Entry) (table : Table) (h : IsTableOf (past ++ e ∷ rest) table) (aside : AreSetAside past (e ∷ rest) table) where
@@ -166,7 +166,7 @@ module _ (past : List Entry) (e : Entry) (rest : List Entry) (table : Table) (h 
   apart_kept : (q tid : ℕ) → is_pair q tid e ≡ false → is_kept_at table.forgotten (kept_in table q tid) ≡ false
   apart_kept q tid other = go (kept_in table q tid) (h.replies q tid)
     where
-      go : (o : Option ℕ) → IsKeptFor (past ++ e ∷ rest) q tid o → is_kept_at table.forgotten o ≡ false
+      go : (o : Option ℕ) → IsReplyPlace (past ++ e ∷ rest) q tid o → is_kept_at table.forgotten o ≡ false
       go None k = refl
       go (Some place) (_, stands) = elsewhere q tid place stands other
 

@@ -1,14 +1,14 @@
 -- Names of other crates, and of this one's definitions, as the proofs of this crate take them.
 pub use Rattle.mds_types.specs.History.{IsPairAt, is_pair, mark}
 pub use Rattle.mds_types.specs.declared.entries.Entry.{Entry}
-pub use Rattle.sessions.specs.Rooms.{AreIndexed, AreListed, Held, Session, changed_at, is_among, with_changed, no_session, row_at, rows, table}
+pub use Rattle.sessions.specs.Rooms.{AreIndexed, AreListed, HeldSessions, Session, changed_at, is_among, with_changed, no_session, row_at, rows, table}
 pub use Rattle.mds_types.specs.declared.replies.Reply.{Reply}
 pub use Rattle.sessions.specs.Aside.{AreSetAside, IsAsideFor, StopsForgetting, forget_all, forget_first, is_kept_at, keeps_first, released, row_with_aside, rows_with_aside}
 pub use Rattle.sessions.specs.Replies.{ArePairsOnce, IsInReach, kept_replies, kept_reply, replies_at, reply_to, told_reply}
 pub use Rattle.sessions.specs.Stored.{AreClientsOnce, Stored, mark_or_none, mark_stored, of_mark, reply_in, reply_or_none, reply_stored, stand_in, stored_of, stand_ins, mark_stand_in, stand_ins_of, with_reply}
 pub use Rattle.sessions.specs.Restored.{AreRowsOf, IsRestored, IsStoredBut, IsStoredAnew, IsStoredOf, TakesClient, TakesReply, marked_row, row_stored, row_with_told, with_client, with_told}
 pub use Rattle.sessions.specs.Seen.{IsReplyAt, IsReplyIn, IsSeen, SeesInRow}
-pub use Rattle.sessions.specs.Table.{IsKeptFor, IsTableOf, Row, Rows, Table, aside_in, kept_in, mark_in, no_row, no_table, noted, noted_row, row_in, row_or_none, trimmed, trimmed_found, trimmed_row}
+pub use Rattle.sessions.specs.Table.{IsReplyPlace, IsTableOf, Row, Rows, Table, aside_in, kept_in, mark_in, no_row, no_table, noted, noted_row, row_in, row_or_none, trimmed, trimmed_found, trimmed_row}
 pub use Rattle.sessions.specs.declared.clients.Seen.{Seen}
 pub use Rattle.sessions.specs.declared.clients.Seen.TheVariants.{Kept, New, Trimmed}
 pub use Rattle.sorted_map.specs.SortedMap.{contents, is_from}

@@ -1,5 +1,5 @@
 -- What is kept of a client, and what its history says.
-use Rattle.sessions.proofs.Common.{AllByRecursion, ArePairsOnce, AreSetAside, Bool, Entry, Equal, Greater, IsAsideFor, IsInReach, IsKeptFor, IsPairAt, IsReplyAt, IsReplyIn, IsTableOf, Less, List, None, Option, Ordering, Reply, Some, T, Table, [], and_parts, ap, ap₂, arith, aside_in, below_all, cond, entries_sorted, eq-eqb, eq_by_cmp, eqb-true, false, false≢true, find, get-entries, get_or_default, is_from, is_lt, is_pair, is_some, is_sorted, kept_in, kept_replies, le_from_is_le, kept_reply, length, list_any, mark, nat_cmp, none-some, ranked, refl, replies_at, reply_in, reply_to, row_in, slice_index_or, stand_in, subst, suc, sym, take, told_reply, true, unsigned_tied, zero, ℕ, ◌&&◌, ◌++◌, ◌-◌, ◌<◌, ◌==◌, ◌||◌, ◌∙◌, ◌∷◌, ◌≡◌, ◌≤◌}
+use Rattle.sessions.proofs.Common.{AllByRecursion, ArePairsOnce, AreSetAside, Bool, Entry, Equal, Greater, IsAsideFor, IsInReach, IsReplyPlace, IsPairAt, IsReplyAt, IsReplyIn, IsTableOf, Less, List, None, Option, Ordering, Reply, Some, T, Table, [], and_parts, ap, ap₂, arith, aside_in, below_all, cond, entries_sorted, eq-eqb, eq_by_cmp, eqb-true, false, false≢true, find, get-entries, get_or_default, is_from, is_lt, is_pair, is_some, is_sorted, kept_in, kept_replies, le_from_is_le, kept_reply, length, list_any, mark, nat_cmp, none-some, ranked, refl, replies_at, reply_in, reply_to, row_in, slice_index_or, stand_in, subst, suc, sym, take, told_reply, true, unsigned_tied, zero, ℕ, ◌&&◌, ◌++◌, ◌-◌, ◌<◌, ◌==◌, ◌||◌, ◌∙◌, ◌∷◌, ◌≡◌, ◌≤◌}
 use Rattle.std.specs.FinMap as map
 use Rattle.mds_types.specs.declared.replies.Reply.TheVariants.{Done}
 use Rattle.sessions.proofs.TableLaws.{is_from_le, kept_within, told_at}
@@ -141,7 +141,7 @@ kept_is past history table client tid h aside once =
     is_reply place None reach = λ e. ap (λ (x : Entry). x.reply) (get_or_default history (place - table.forgotten) (stand_in 0 0 0 Done) e (reach refl).1)
     is_reply place (Some reply) reach = refl
 
-    go : (o : Option ℕ) → kept_in table client tid ≡ o → (a : Option Reply) → aside_in table client tid ≡ a → IsKeptFor (past ++ history) client tid o → IsAsideFor (past ++ history) table.forgotten o a
+    go : (o : Option ℕ) → kept_in table client tid ≡ o → (a : Option Reply) → aside_in table client tid ≡ a → IsReplyPlace (past ++ history) client tid o → IsAsideFor (past ++ history) table.forgotten o a
         → reply_at history table.forgotten (row_in table client).aside tid o ≡ kept_reply (past ++ history) client tid
     go None is a aside_is k s = below (is_from nat_cmp (mark (past ++ history) client) tid) refl
       where

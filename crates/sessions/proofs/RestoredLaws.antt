@@ -1,5 +1,5 @@
 -- Sessions that begin again from what was stored.
-use Rattle.sessions.proofs.Common.{reply_stored, ArePairsOnce, AreSetAside, IsPairAt, Bool, Entry, IsAsideFor, IsKeptFor, IsRestored, IsTableOf, List, None, Option, Reply, Row, Some, Stored, Table, [], ap, ap₂, append-nil, arith, aside_in, cond, eq-eqb, eqb-true, false, false≢true, get-empty, get-insert, get_or-append_seam, is_pair, is_some, kept_in, length, length-append, list_any, list_any-append, mark, mark_in, mark_or_none, marked_row, max, nat_cmp, nat_cmp_total, nat_eq_equiv, no_row, no_table, none-some, of_mark, refl, reply_in, reply_or_none, row_in, row_or_none, row_with_told, slice_index_or, stand_in, stored_of, subst, sym, stand_ins, mark_stand_in, true, unsigned_tied, with_client, with_reply, with_told, ℕ, ◌&&◌, ◌+◌, ◌++◌, ◌<◌, ◌==◌, ◌||◌, ◌∙◌, ◌∷◌, ◌≡◌, ◌≤◌}
+use Rattle.sessions.proofs.Common.{reply_stored, ArePairsOnce, AreSetAside, IsPairAt, Bool, Entry, IsAsideFor, IsReplyPlace, IsRestored, IsTableOf, List, None, Option, Reply, Row, Some, Stored, Table, [], ap, ap₂, append-nil, arith, aside_in, cond, eq-eqb, eqb-true, false, false≢true, get-empty, get-insert, get_or-append_seam, is_pair, is_some, kept_in, length, length-append, list_any, list_any-append, mark, mark_in, mark_or_none, marked_row, max, nat_cmp, nat_cmp_total, nat_eq_equiv, no_row, no_table, none-some, of_mark, refl, reply_in, reply_or_none, row_in, row_or_none, row_with_told, slice_index_or, stand_in, stored_of, subst, sym, stand_ins, mark_stand_in, true, unsigned_tied, with_client, with_reply, with_told, ℕ, ◌&&◌, ◌+◌, ◌++◌, ◌<◌, ◌==◌, ◌||◌, ◌∙◌, ◌∷◌, ◌≡◌, ◌≤◌}
 use Rattle.std.specs.FinMap as map
 use Rattle.mds_types.specs.declared.replies.Reply.TheVariants.{Done}
 use Rattle.sessions.specs.Restored.{IsUnfitFor, IsUnfitReply}
@@ -29,7 +29,7 @@ pub kept_stored : (stored : List Stored) (table : Table) (client tid : ℕ) → 
 kept_stored stored table client tid h =
     go (kept_in table client tid) (aside_in table client tid) (h.tabled.replies client tid) (asides (stand_ins stored) table h.tabled h.aside client tid) ∙ ap is_some (h.replies client tid)
   where
-    go : (o : Option ℕ) (a : Option Reply) → IsKeptFor (stand_ins stored) client tid o → IsAsideFor (stand_ins stored) table.forgotten o a → is_some o ≡ is_some a
+    go : (o : Option ℕ) (a : Option Reply) → IsReplyPlace (stand_ins stored) client tid o → IsAsideFor (stand_ins stored) table.forgotten o a → is_some o ≡ is_some a
     go None None k s = refl
     go None (Some reply) k s = absurd s
     go (Some place) None (_, stands) s = absurd (omega (arith, stands.in_range, s, h.aside.before))
@@ -118,7 +118,7 @@ module _ (whole : List Entry) (table : Table) (h : IsTableOf whole table) (aside
   table_same : IsTableOf whole (after table forgotten client row)
   table_same = record {
     marks = λ q. mark_same q ∙ h.marks q;
-    replies = λ q t. subst (IsKeptFor whole q t) (sym (kept_same q t)) (h.replies q t);
+    replies = λ q t. subst (IsReplyPlace whole q t) (sym (kept_same q t)) (h.replies q t);
   }
 
   aside_still : AreSetAside whole [] (after table forgotten client row)
@@ -193,7 +193,7 @@ module _ (stored : List Stored) (table : Table) (client m : ℕ) (h : IsRestored
           go false is = refl
           go true is = let at : 0 ≡ t = eqb-true 0 t is in absurd (false≢true (sym some ∙ eq-eqb m 0 (omega (arith, low, at))))
 
-      absent : (t : ℕ) → IsKeptFor (stand_ins stored ++ e ∷ []) client t None
+      absent : (t : ℕ) → IsReplyPlace (stand_ins stored ++ e ∷ []) client t None
       absent t low =
           list_any-append (is_pair client t) (stand_ins stored) (e ∷ [])
           ∙ ap₂ (λ a b. a || (b || false)) (unheard t) (ap (λ b. (client == client) && b) (above t (subst (λ n. n ≤ t) risen low)) ∙ never (client == client))
@@ -202,8 +202,8 @@ module _ (stored : List Stored) (table : Table) (client m : ℕ) (h : IsRestored
           never true = refl
           never false = refl
 
-      kept : (t : ℕ) → IsKeptFor (stand_ins stored ++ e ∷ []) client t (map.get (marked_row m).kept t)
-      kept t = subst (IsKeptFor (stand_ins stored ++ e ∷ []) client t) (sym (get-empty nat_cmp t)) (absent t)
+      kept : (t : ℕ) → IsReplyPlace (stand_ins stored ++ e ∷ []) client t (map.get (marked_row m).kept t)
+      kept t = subst (IsReplyPlace (stand_ins stored ++ e ∷ []) client t) (sym (get-empty nat_cmp t)) (absent t)
 
       set_aside : (t : ℕ) → IsAsideFor (stand_ins stored ++ e ∷ []) (table.forgotten + 1) (map.get (marked_row m).kept t) (map.get (marked_row m).aside t)
       set_aside t = nothing (map.get (marked_row m).kept t) (map.get (marked_row m).aside t) (get-empty nat_cmp t) (get-empty nat_cmp t)
@@ -291,10 +291,10 @@ module _ (stored : List Stored) (s : Stored) (table : Table) (tid : ℕ) (reply 
     pair = λ d. rw (get_or-append_seam (stand_ins (stored ++ s ∷ [])) e [] d, eq-eqb s.client s.client refl) (eq-eqb tid t (sym same));
   })
 
-  kept_now : (t : ℕ) → IsKeptFor (stand_ins (stored ++ s ∷ []) ++ e ∷ []) s.client t (map.get row.kept t)
-  kept_now t = subst (IsKeptFor (stand_ins (stored ++ s ∷ []) ++ e ∷ []) s.client t) (sym (kept_row t)) (go (t == tid) refl)
+  kept_now : (t : ℕ) → IsReplyPlace (stand_ins (stored ++ s ∷ []) ++ e ∷ []) s.client t (map.get row.kept t)
+  kept_now t = subst (IsReplyPlace (stand_ins (stored ++ s ∷ []) ++ e ∷ []) s.client t) (sym (kept_row t)) (go (t == tid) refl)
     where
-      go : (b : Bool) → (t == tid) ≡ b → IsKeptFor (stand_ins (stored ++ s ∷ []) ++ e ∷ []) s.client t (cond b (Some table.forgotten) (kept_in table s.client t))
+      go : (b : Bool) → (t == tid) ≡ b → IsReplyPlace (stand_ins (stored ++ s ∷ []) ++ e ∷ []) s.client t (cond b (Some table.forgotten) (kept_in table s.client t))
       go true one = let at = eqb-true t tid one in (omega (arith, mark_now, low, at), at_end t at)
       go false apart =
           let before = h.tabled.marks s.client in

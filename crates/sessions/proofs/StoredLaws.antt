@@ -1,5 +1,5 @@
 -- What is stored, the history that the clients were told, and the table of it with one entry more.
-use Rattle.sessions.proofs.Common.{AreClientsOnce, ArePairsOnce, AreSetAside, Bool, Entry, IsAsideFor, IsKeptFor, IsTableOf, List, None, Option, Reply, Row, Some, Stored, Table, [], ap, ap₂, append-nil, append_assoc, arith, aside_in, cond, eq-eqb, eqb-true, false, false≢true, get-insert, get_or-append_seam, get_or_append_left, is_pair, is_some, kept_in, length, length-append, list_any, map-append, mark, mark_in, max, nat_cmp_total, nat_eq_equiv, none-some, of_mark, refl, reply_in, row_in, row_or_none, slice_index_or, stand_in, stored_of, subst, sym, take, take-append-le, take-append_seam, stand_ins, mark_stand_in, stand_ins_of, true, unsigned_tied, with_reply, ℕ, ◌&&◌, ◌+◌, ◌++◌, ◌<◌, ◌==◌, ◌∙◌, ◌∷◌, ◌≡◌, ◌≤◌}
+use Rattle.sessions.proofs.Common.{AreClientsOnce, ArePairsOnce, AreSetAside, Bool, Entry, IsAsideFor, IsReplyPlace, IsTableOf, List, None, Option, Reply, Row, Some, Stored, Table, [], ap, ap₂, append-nil, append_assoc, arith, aside_in, cond, eq-eqb, eqb-true, false, false≢true, get-insert, get_or-append_seam, get_or_append_left, is_pair, is_some, kept_in, length, length-append, list_any, map-append, mark, mark_in, max, nat_cmp_total, nat_eq_equiv, none-some, of_mark, refl, reply_in, row_in, row_or_none, slice_index_or, stand_in, stored_of, subst, sym, take, take-append-le, take-append_seam, stand_ins, mark_stand_in, stand_ins_of, true, unsigned_tied, with_reply, ℕ, ◌&&◌, ◌+◌, ◌++◌, ◌<◌, ◌==◌, ◌∙◌, ◌∷◌, ◌≡◌, ◌≤◌}
 use Rattle.std.proofs.Common.{map as list_map}
 use Rattle.std.specs.FinMap as map
 use Rattle.sessions.proofs.AsideLaws.{still_aside}
@@ -122,7 +122,7 @@ module _ (whole : List Entry) (table : Table) (h : IsTableOf whole table) (aside
   asides q tid = subst (λ l. IsAsideFor l table.forgotten (kept_in table q tid) (aside_in table q tid)) (append-nil whole) (aside.aside q tid)
 
   -- what is set aside stays so behind one more, which is forgotten too
-  pub aside_up : (e : Entry) (q tid : ℕ) (o : Option ℕ) (a : Option Reply) → IsKeptFor whole q tid o → IsAsideFor whole table.forgotten o a → IsAsideFor (whole ++ e ∷ []) (table.forgotten + 1) o a
+  pub aside_up : (e : Entry) (q tid : ℕ) (o : Option ℕ) (a : Option Reply) → IsReplyPlace whole q tid o → IsAsideFor whole table.forgotten o a → IsAsideFor (whole ++ e ∷ []) (table.forgotten + 1) o a
   aside_up e q tid None None k s = tt
   aside_up e q tid None (Some reply) k s = absurd s
   aside_up e q tid (Some place) None (_, stands) s = absurd (omega (arith, stands.in_range, s, long))
@@ -140,10 +140,10 @@ module _ (whole : List Entry) (table : Table) (h : IsTableOf whole table) (aside
 
   -- and where nothing is kept of a pair at or above the mark, it is new
   pub new_pair : (q tid : ℕ) → mark_in table q ≤ tid → kept_in table q tid ≡ None → list_any (is_pair q tid) whole ≡ false
-  new_pair q tid low none = subst (IsKeptFor whole q tid) none (h.replies q tid) (subst (λ m. m ≤ tid) (h.marks q) low)
+  new_pair q tid low none = subst (IsReplyPlace whole q tid) none (h.replies q tid) (subst (λ m. m ≤ tid) (h.marks q) low)
 
   module _ (e : Entry) (row : Row) (marked : row.mark ≡ max (mark whole e.client) e.oldest)
-      (kept : (t : ℕ) → IsKeptFor (whole ++ e ∷ []) e.client t (map.get row.kept t)) (set_aside : (t : ℕ) → IsAsideFor (whole ++ e ∷ []) (table.forgotten + 1) (map.get row.kept t) (map.get row.aside t)) where
+      (kept : (t : ℕ) → IsReplyPlace (whole ++ e ∷ []) e.client t (map.get row.kept t)) (set_aside : (t : ℕ) → IsAsideFor (whole ++ e ∷ []) (table.forgotten + 1) (map.get row.kept t) (map.get row.aside t)) where
     abbrev next : Table
     next = record table { forgotten = table.forgotten + 1; rows = map.insert table.rows e.client row }
 
@@ -173,11 +173,11 @@ module _ (whole : List Entry) (table : Table) (h : IsTableOf whole table) (aside
                 marked ∙ sym (mark-push whole e q ∙ ap (λ b. cond b (max (mark whole q) e.oldest) (mark whole q)) (nat_eq_equiv.symm e.client q ∙ same) ∙ ap (λ c. max (mark whole c) e.oldest) one)
             go false apart = h.marks q ∙ sym (unmarked q apart)
 
-        replies : (q tid : ℕ) → IsKeptFor (whole ++ e ∷ []) q tid (kept_in next q tid)
-        replies q tid = subst (λ (r : Row). IsKeptFor (whole ++ e ∷ []) q tid (map.get r.kept tid)) (sym (row_next q)) (go (q == e.client) refl)
+        replies : (q tid : ℕ) → IsReplyPlace (whole ++ e ∷ []) q tid (kept_in next q tid)
+        replies q tid = subst (λ (r : Row). IsReplyPlace (whole ++ e ∷ []) q tid (map.get r.kept tid)) (sym (row_next q)) (go (q == e.client) refl)
           where
-            go : (b : Bool) → (q == e.client) ≡ b → IsKeptFor (whole ++ e ∷ []) q tid (map.get (cond b row (row_in table q)).kept tid)
-            go true same = subst (λ c. IsKeptFor (whole ++ e ∷ []) c tid (map.get row.kept tid)) (sym (eqb-true q e.client same)) (kept tid)
+            go : (b : Bool) → (q == e.client) ≡ b → IsReplyPlace (whole ++ e ∷ []) q tid (map.get (cond b row (row_in table q)).kept tid)
+            go true same = subst (λ c. IsReplyPlace (whole ++ e ∷ []) c tid (map.get row.kept tid)) (sym (eqb-true q e.client same)) (kept tid)
             go false apart =
                 let grown = unmarked q apart in
                 others_kept whole e q tid (other_pair q tid apart) (omega (arith, grown)) (λ low. subst (λ m. m ≤ tid) (sym grown) low) (kept_in table q tid) (h.replies q tid)

@@ -1,5 +1,5 @@
 -- Laws of the table: that of no requests, that with one more, and what it tells.
-use Rattle.sessions.proofs.Common.{AreSetAside, IsAsideFor, IsReplyAt, IsReplyIn, Reply, aside_in, get_or-append-add, no_table, none-some, same_Some, slice_index_or, ◌+◌, ◌-◌, Bool, Entry, Equal, Greater, IsKeptFor, IsSeen, IsTableOf, Kept, Less, List, New, None, Option, Ordering, Row, Seen, SeesInRow, IsPairAt, Some, Table, Trimmed, [], ap, arith, cond, eq-eqb, eq_by_cmp, eqb-true, false, false≢true, get-empty, get-insert, get-retain_keys, get_or-append_seam, get_or_append_left, inl, inr, is_from, is_le, is_pair, kept_in, le_from_is_le, length, length-append, list_any-append, mark, max, nat_cmp, nat_cmp-IsAntisymmetric, nat_cmp_total, nat_eq_equiv, noted, noted_row, or-false, ranked, refl, row_in, row_or_none, subst, sym, trimmed, trimmed_found, trimmed_row, true, unsigned_tied, ℕ, ⊎_elim, ◌&&◌, ◌++◌, ◌<◌, ◌==◌, ◌||◌, ◌∙◌, ◌∷◌, ◌≡◌, ◌≤◌}
+use Rattle.sessions.proofs.Common.{AreSetAside, IsAsideFor, IsReplyAt, IsReplyIn, Reply, aside_in, get_or-append-add, no_table, none-some, same_Some, slice_index_or, ◌+◌, ◌-◌, Bool, Entry, Equal, Greater, IsReplyPlace, IsSeen, IsTableOf, Kept, Less, List, New, None, Option, Ordering, Row, Seen, SeesInRow, IsPairAt, Some, Table, Trimmed, [], ap, arith, cond, eq-eqb, eq_by_cmp, eqb-true, false, false≢true, get-empty, get-insert, get-retain_keys, get_or-append_seam, get_or_append_left, inl, inr, is_from, is_le, is_pair, kept_in, le_from_is_le, length, length-append, list_any-append, mark, max, nat_cmp, nat_cmp-IsAntisymmetric, nat_cmp_total, nat_eq_equiv, noted, noted_row, or-false, ranked, refl, row_in, row_or_none, subst, sym, trimmed, trimmed_found, trimmed_row, true, unsigned_tied, ℕ, ⊎_elim, ◌&&◌, ◌++◌, ◌<◌, ◌==◌, ◌||◌, ◌∙◌, ◌∷◌, ◌≡◌, ◌≤◌}
 use Rattle.std.specs.FinMap as map
 
 pub is_from_le : {a b : ℕ} → a ≤ b → is_le (nat_cmp a b) ≡ true
@@ -49,19 +49,19 @@ pub sees : (past history : List Entry) (table : Table) (client tid oldest : ℕ)
     → SeesInRow history table.forgotten (row_in table client) tid oldest seen → IsSeen (past ++ history) client tid oldest seen
 sees past history table client tid oldest Trimmed h aside s = ⊎_elim (λ below. inl (subst (λ m. tid < m) (h.marks client) below)) inr s
 sees past history table client tid oldest (Kept place reply) h aside (marked, own, is, told) =
-    let kept = subst (IsKeptFor (past ++ history) client tid) is (h.replies client tid) in (
+    let kept = subst (IsReplyPlace (past ++ history) client tid) is (h.replies client tid) in (
       record { marked = kept.0; own = own; at = kept.1 },
       told_at past history table.forgotten place aside.before (kept_in table client tid) is (aside_in table client tid) reply.now (aside.aside client tid) told,
     )
 sees past history table client tid oldest (New at) h aside (marked, own, is) =
     let above = subst (λ m. m ≤ tid) (h.marks client) marked in
-    record { marked = above; own = own; absent = subst (IsKeptFor (past ++ history) client tid) is (h.replies client tid) above }
+    record { marked = above; own = own; absent = subst (IsReplyPlace (past ++ history) client tid) is (h.replies client tid) above }
 
 -- what is kept and isn't set aside stands in the rest of the history
 pub kept_within : (past history : List Entry) (table : Table) (client tid place : ℕ) → IsTableOf (past ++ history) table → AreSetAside past history table
     → map.get (row_in table client).kept tid ≡ Some place → map.get (row_in table client).aside tid ≡ None → (table.forgotten ≤ place) × (place - table.forgotten < length history)
 kept_within past history table client tid place h aside is none =
-    let kept = subst (IsKeptFor (past ++ history) client tid) is (h.replies client tid) in
+    let kept = subst (IsReplyPlace (past ++ history) client tid) is (h.replies client tid) in
     let low : table.forgotten ≤ place = subst (IsAsideFor (past ++ history) table.forgotten (Some place)) none (subst (λ o. IsAsideFor (past ++ history) table.forgotten o (aside_in table client tid)) is (aside.aside client tid)) in
     (low, omega (arith, low, kept.1.in_range, length-append past history, aside.before))
 
@@ -90,16 +90,16 @@ still_there past e client tid place h = record {
 
 -- what is kept for another pair than the entry's
 pub others_kept : (past : List Entry) (e : Entry) (client tid : ℕ) → is_pair client tid e ≡ false → mark past client ≤ mark (past ++ e ∷ []) client
-    → (mark past client ≤ tid → mark (past ++ e ∷ []) client ≤ tid) → (o : Option ℕ) → IsKeptFor past client tid o → IsKeptFor (past ++ e ∷ []) client tid o
+    → (mark past client ≤ tid → mark (past ++ e ∷ []) client ≤ tid) → (o : Option ℕ) → IsReplyPlace past client tid o → IsReplyPlace (past ++ e ∷ []) client tid o
 others_kept past e client tid other rises stays (Some place) (marked, h) = (stays marked, still_there past e client tid place h)
 others_kept past e client tid other rises stays None absent =
     λ marked. list_any-append (is_pair client tid) past (e ∷ []) ∙ ap (λ b. b || (is_pair client tid e || false)) (absent (omega arith)) ∙ or-false (is_pair client tid e) ∙ other
 
 -- what is kept for the entry's own client
-own_kept : (past : List Entry) (e : Entry) (tid : ℕ) → (row : Row) → row.mark ≡ mark past e.client → ((t : ℕ) → IsKeptFor past e.client t (map.get row.kept t))
-    → IsKeptFor (past ++ e ∷ []) e.client tid (map.get (trimmed_row (noted_row row e.tid e.oldest (length past))).kept tid)
+own_kept : (past : List Entry) (e : Entry) (tid : ℕ) → (row : Row) → row.mark ≡ mark past e.client → ((t : ℕ) → IsReplyPlace past e.client t (map.get row.kept t))
+    → IsReplyPlace (past ++ e ∷ []) e.client tid (map.get (trimmed_row (noted_row row e.tid e.oldest (length past))).kept tid)
 own_kept past e tid row is h =
-    subst (IsKeptFor (past ++ e ∷ []) e.client tid) (sym kept) (go (is_le (nat_cmp risen tid)) refl (tid == e.tid) refl)
+    subst (IsReplyPlace (past ++ e ∷ []) e.client tid) (sym kept) (go (is_le (nat_cmp risen tid)) refl (tid == e.tid) refl)
   where
     risen : ℕ
     risen = max row.mark e.oldest
@@ -121,7 +121,7 @@ own_kept past e tid row is h =
     other : (tid == e.tid) ≡ false → is_pair e.client tid e ≡ false
     other apart = ap (λ b. b && (e.tid == tid)) (eq-eqb e.client e.client refl) ∙ nat_eq_equiv.symm e.tid tid ∙ apart
 
-    go : (b : Bool) → is_le (nat_cmp risen tid) ≡ b → (c : Bool) → (tid == e.tid) ≡ c → IsKeptFor (past ++ e ∷ []) e.client tid (cond b (cond c (Some (length past)) (map.get row.kept tid)) None)
+    go : (b : Bool) → is_le (nat_cmp risen tid) ≡ b → (c : Bool) → (tid == e.tid) ≡ c → IsReplyPlace (past ++ e ∷ []) e.client tid (cond b (cond c (Some (length past)) (map.get row.kept tid)) None)
     go true above true same = let low = le_from_is_le risen tid above in (subst (λ m. m ≤ tid) (sym marked) low, at_end (eqb-true tid e.tid same))
     go true above false apart =
         let low = le_from_is_le risen tid above in
@@ -156,11 +156,11 @@ table-push past table e h = record { marks = marks; replies = replies }
             ap (λ m. max m e.oldest) (h.marks e.client) ∙ sym (mark-push past e q ∙ ap (λ b. cond b (max (mark past q) e.oldest) (mark past q)) (nat_eq_equiv.symm e.client q ∙ same) ∙ ap (λ c. max (mark past c) e.oldest) one)
         go false apart = h.marks q ∙ sym (unmarked q apart)
 
-    replies : (q tid : ℕ) → IsKeptFor (past ++ e ∷ []) q tid (map.get (now q).kept tid)
-    replies q tid = subst (λ (r : Row). IsKeptFor (past ++ e ∷ []) q tid (map.get r.kept tid)) (sym (is q)) (go (q == e.client) refl)
+    replies : (q tid : ℕ) → IsReplyPlace (past ++ e ∷ []) q tid (map.get (now q).kept tid)
+    replies q tid = subst (λ (r : Row). IsReplyPlace (past ++ e ∷ []) q tid (map.get r.kept tid)) (sym (is q)) (go (q == e.client) refl)
       where
-        go : (b : Bool) → (q == e.client) ≡ b → IsKeptFor (past ++ e ∷ []) q tid (map.get (cond b after (row_in table q)).kept tid)
-        go true same = subst (λ c. IsKeptFor (past ++ e ∷ []) c tid (map.get after.kept tid)) (sym (eqb-true q e.client same)) (own_kept past e tid row (h.marks e.client) (h.replies e.client))
+        go : (b : Bool) → (q == e.client) ≡ b → IsReplyPlace (past ++ e ∷ []) q tid (map.get (cond b after (row_in table q)).kept tid)
+        go true same = subst (λ c. IsReplyPlace (past ++ e ∷ []) c tid (map.get after.kept tid)) (sym (eqb-true q e.client same)) (own_kept past e tid row (h.marks e.client) (h.replies e.client))
         go false apart =
             let grown = unmarked q apart in
             others_kept past e q tid (ap (λ b. b && (e.tid == tid)) (nat_eq_equiv.symm e.client q ∙ apart)) (omega (arith, grown)) (λ low. subst (λ m. m ≤ tid) (sym grown) low) (kept_in table q tid) (h.replies q tid)

@@ -18,7 +18,7 @@ pub record Session : Type 0 where
 -- how many entries are forgotten, the index of each client's session, the sessions, how many more clients fit, the
 -- session that was made ready for the next, the clients that are changed, in the order in which they became so, and
 -- whether one more of them fits
-pub record Held : Type 0 where
+pub record HeldSessions : Type 0 where
   pub forgotten : ℕ
   pub indices : map.FinMap nat_cmp ℕ
   pub sessions : List Session
@@ -43,7 +43,7 @@ unfoldable pub rows : map.FinMap nat_cmp ℕ → List Session → Rows
 rows indices sessions = map.from_sorted (map (λ e. (e.0, row_at sessions e.1)) (map.entries indices))
 
 -- the table alone
-abbrev pub table : Held → Table
+abbrev pub table : HeldSessions → Table
 table held = record { forgotten = held.forgotten; rows = rows held.indices held.sessions; changed = held.changed }
 
 -- each client has a session of its own
@@ -62,20 +62,20 @@ AreListed indices sessions changed =
     (client : ℕ) → is_among changed client ≡ changed_at sessions (map.get indices client)
 
 -- room for one more reply: in the session that was found, or for a client more and its session, made ready
-abbrev pub HasRoom : Held → Option ℕ → Type 0
-HasRoom held (Some i) = 0 < (session_at held.sessions i).room
-HasRoom held None = (0 < held.room) × IsSome held.spare
+abbrev pub HasReplyRoom : HeldSessions → Option ℕ → Type 0
+HasReplyRoom held (Some i) = 0 < (session_at held.sessions i).room
+HasReplyRoom held None = (0 < held.room) × IsSome held.spare
 
 -- one more reply to the client can be kept with no growth, and the client be listed
-abbrev pub IsReady : Held → ℕ → Type 0
-IsReady held client = HasRoom held (map.get held.indices client) × (held.changed_fits ≡ true)
+abbrev pub IsReady : HeldSessions → ℕ → Type 0
+IsReady held client = HasReplyRoom held (map.get held.indices client) × (held.changed_fits ≡ true)
 
 -- a client's session is there, or nowhere, since nothing is known of the client
-abbrev pub IsSessionAt : Held → SessionAt → Type 0
+abbrev pub IsSessionAt : HeldSessions → SessionAt → Type 0
 IsSessionAt held at = map.get held.indices at.client ≡ at.session
 
 -- with a request that is new comes where its client's session is
-abbrev pub TellsSession : Held → ℕ → Seen → Type 0
+abbrev pub TellsSession : HeldSessions → ℕ → Seen → Type 0
 TellsSession held client Trimmed = Unit {0}
 TellsSession held client (Kept place reply) = Unit {0}
 TellsSession held client (New at) = (at.client ≡ client) × IsSessionAt held at

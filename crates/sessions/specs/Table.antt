@@ -99,11 +99,11 @@ trimmed table client = record table { rows = trimmed_found table.rows client (ma
 
 -- what is kept for a pair: the place of its entry if it stands in the history and isn't below the mark, and else
 -- nothing
-abbrev pub IsKeptFor : List Entry → ℕ → ℕ → Option ℕ → Type 0
-IsKeptFor history client tid (Some place) = (mark history client ≤ tid) × IsPairAt history client tid place
-IsKeptFor history client tid None = mark history client ≤ tid → list_any (is_pair client tid) history ≡ false
+abbrev pub IsReplyPlace : List Entry → ℕ → ℕ → Option ℕ → Type 0
+IsReplyPlace history client tid (Some place) = (mark history client ≤ tid) × IsPairAt history client tid place
+IsReplyPlace history client tid None = mark history client ≤ tid → list_any (is_pair client tid) history ≡ false
 
 -- the table is that of the history: each client's mark, and where the replies at or above it are
 pub record IsTableOf (history : List Entry) (table : Table) : Type 0 where
   pub marks : (client : ℕ) → mark_in table client ≡ mark history client
-  pub replies : (client tid : ℕ) → IsKeptFor history client tid (kept_in table client tid)
+  pub replies : (client tid : ℕ) → IsReplyPlace history client tid (kept_in table client tid)

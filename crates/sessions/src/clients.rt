@@ -7,7 +7,7 @@ ghost use Rattle.sessions.specs.Replies.{IsInReach, replies_at};
 ghost use Rattle.sessions.specs.Restored.{IsUnfitFor, TakesToldReply, marked_row};
 ghost use Rattle.sessions.specs.Table.{no_row, noted_row, trimmed_row};
 ghost use Rattle.sessions.specs.Seen.{IsReplyIn, SeesInRow};
-ghost use Rattle.sessions.specs.Rooms.{Held as Table, IsSessionAt, TellsSession};
+ghost use Rattle.sessions.specs.Rooms.{HeldSessions as Table, IsSessionAt, TellsSession};
 
 use crate::found::SessionAt;
 use crate::kept::{ClientKept, Replies};

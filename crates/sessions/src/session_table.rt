@@ -8,7 +8,7 @@ ghost use Rattle.mds_types.specs.declared.entries.Entry.{Entry as Applied};
 ghost use Rattle.sessions.specs.Aside.{AreSetAside, StopsForgetting, forget_all, forget_first, keeps_first, released};
 ghost use Rattle.sessions.specs.Table.{all_stored, no_row, no_table, noted, trimmed, IsTableOf};
 ghost use Rattle.sessions.specs.Kept.{IsKept};
-ghost use Rattle.sessions.specs.Rooms.{AreIndexed, Held, IsReady, IsSessionAt, TellsSession, changed_at, is_among, row_at, table, with_changed};
+ghost use Rattle.sessions.specs.Rooms.{AreIndexed, HeldSessions, IsReady, IsSessionAt, TellsSession, changed_at, is_among, row_at, table, with_changed};
 ghost use Rattle.sessions.specs.Seen.{IsSeen};
 
 use crate::clients::{Client, Seen};
@@ -45,9 +45,9 @@ impl Model for Sessions {
     ghost use Rattle.std.specs.FinMap as map;
     ghost use Rattle.sorted_map.specs.SortedMap.{contents};
     ghost use Rattle.sessions.specs.Table.{no_row};
-    ghost use Rattle.sessions.specs.Rooms.{AreIndexed, AreListed, Held};
+    ghost use Rattle.sessions.specs.Rooms.{AreIndexed, AreListed, HeldSessions};
 
-    ghost Value = { Held };
+    ghost Value = { HeldSessions };
 
     ghost coded = { Prim.hlevel (codes, map.code) };
 

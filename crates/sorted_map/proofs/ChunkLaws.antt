@@ -1,5 +1,5 @@
 -- What an edit of one chunk does to a row of chunks.
-use Rattle.sorted_map.proofs.Common.{AllFew, IsCounted, List, [], ap, arith, drop, flat, get_or, get_or-remove_below, insert, length, length-append, length-drop, length-insert, length-remove, length-set, length-take-le, over, refl, remove, set, subst, suc, take, total, zero, ℕ, ◌*◌, ◌++◌, ◌+◌, ◌-◌, ◌<◌, ◌∙◌, ◌∷◌, ◌≡◌, ◌≤◌}
+use Rattle.sorted_map.proofs.Common.{AllFew, AreLengths, List, [], ap, arith, drop, flat, get_or, get_or-remove_below, insert, length, length-append, length-drop, length-insert, length-remove, length-set, length-take-le, over, refl, remove, set, subst, suc, take, total, zero, ℕ, ◌*◌, ◌++◌, ◌+◌, ◌-◌, ◌<◌, ◌∙◌, ◌∷◌, ◌≡◌, ◌≤◌}
 
 module _ {A : Type 0} where
   pub flat_length : (cs : List (List A)) → length (flat cs) ≡ total length cs
@@ -80,7 +80,7 @@ module _ {A : Type 0} where
   back_of (suc n) [] b whole len is = absurd (omega (arith, len))
   back_of (suc n) (x ∷ a) b whole len is = back_of n a b (a ++ b) (omega (arith, len)) refl ∙ ap (drop (suc n)) is
 
-  module _ {cs : List (List A)} {len extra : ℕ} (counted : IsCounted cs len extra) where
+  module _ {cs : List (List A)} {len extra : ℕ} (counted : AreLengths cs len extra) where
     -- the numbers fit a machine's word
     pub small_len : length cs ≤ 1099511627776 → len ≤ 70368744177664
     small_len few = omega (arith, counted.whole, few_total cs counted.few)
@@ -96,28 +96,28 @@ module _ {A : Type 0} where
     part_extra i lt = omega (arith, counted.beyond, total_part (λ c. length c - 32) cs i lt)
 
     -- one chunk is another
-    pub counted_set : (i : ℕ) (c : List A) (len2 extra2 : ℕ) → i < length cs → length c ≤ 64 → len2 + length (get_or cs i []) ≡ len + length c → extra2 + (length (get_or cs i []) - 32) ≡ extra + (length c - 32) → IsCounted (set cs i c) len2 extra2
+    pub counted_set : (i : ℕ) (c : List A) (len2 extra2 : ℕ) → i < length cs → length c ≤ 64 → len2 + length (get_or cs i []) ≡ len + length c → extra2 + (length (get_or cs i []) - 32) ≡ extra + (length c - 32) → AreLengths (set cs i c) len2 extra2
     counted_set i c len2 extra2 lt few lens extras = record {
       whole = omega (arith, counted.whole, lens, total_set length cs i c lt);
       beyond = omega (arith, counted.beyond, extras, total_set (λ c. length c - 32) cs i c lt);
       few = few_set cs i c counted.few few;
     }
 
-    pub counted_insert : (i : ℕ) (c : List A) (len2 extra2 : ℕ) → i ≤ length cs → length c ≤ 64 → len2 ≡ len + length c → extra2 ≡ extra + (length c - 32) → IsCounted (insert cs i c) len2 extra2
+    pub counted_insert : (i : ℕ) (c : List A) (len2 extra2 : ℕ) → i ≤ length cs → length c ≤ 64 → len2 ≡ len + length c → extra2 ≡ extra + (length c - 32) → AreLengths (insert cs i c) len2 extra2
     counted_insert i c len2 extra2 le few lens extras = record {
       whole = omega (arith, counted.whole, lens, total_insert length cs i c le);
       beyond = omega (arith, counted.beyond, extras, total_insert (λ c. length c - 32) cs i c le);
       few = few_insert cs i c counted.few few;
     }
 
-    pub counted_end : (c : List A) (len2 extra2 : ℕ) → length c ≤ 64 → len2 ≡ len + length c → extra2 ≡ extra + (length c - 32) → IsCounted (cs ++ c ∷ []) len2 extra2
+    pub counted_end : (c : List A) (len2 extra2 : ℕ) → length c ≤ 64 → len2 ≡ len + length c → extra2 ≡ extra + (length c - 32) → AreLengths (cs ++ c ∷ []) len2 extra2
     counted_end c len2 extra2 few lens extras = record {
       whole = omega (arith, counted.whole, lens, total_end length cs c);
       beyond = omega (arith, counted.beyond, extras, total_end (λ c. length c - 32) cs c);
       few = few_end cs c counted.few few;
     }
 
-    pub counted_remove : (i : ℕ) (len2 extra2 : ℕ) → i < length cs → len2 + length (get_or cs i []) ≡ len → extra2 + (length (get_or cs i []) - 32) ≡ extra → IsCounted (remove cs i) len2 extra2
+    pub counted_remove : (i : ℕ) (len2 extra2 : ℕ) → i < length cs → len2 + length (get_or cs i []) ≡ len → extra2 + (length (get_or cs i []) - 32) ≡ extra → AreLengths (remove cs i) len2 extra2
     counted_remove i len2 extra2 lt lens extras = record {
       whole = omega (arith, counted.whole, lens, total_remove length cs i lt);
       beyond = omega (arith, counted.beyond, extras, total_remove (λ c. length c - 32) cs i lt);
@@ -138,10 +138,10 @@ pub one_of : {A : Type 0} (xs : List A) (i : ℕ) → i < length xs → A
 one_of [] i lt = absurd (omega (arith, lt))
 one_of (x ∷ xs) i lt = x
 
-module _ {A : Type 0} {cs : List (List A)} {len extra : ℕ} (counted : IsCounted cs len extra) (i : ℕ) (lt : i < length cs) where
+module _ {A : Type 0} {cs : List (List A)} {len extra : ℕ} (counted : AreLengths cs len extra) (i : ℕ) (lt : i < length cs) where
   -- the edits of a chunk that is read twice: its length first, and then the chunk
   pub counted_put : (read old new : List A) (at : ℕ) (x : A) (n more less : ℕ) → read ≡ get_or cs i read → old ≡ get_or cs i old → at ≤ length (get_or cs i []) → length (get_or cs i []) < 64
-      → new ≡ insert old at x → n ≡ length read → more ≡ n + 1 - 32 → less ≡ n - 32 → IsCounted (set cs i new) (len + 1) (extra + more - less)
+      → new ≡ insert old at x → n ≡ length read → more ≡ n + 1 - 32 → less ≡ n - 32 → AreLengths (set cs i new) (len + 1) (extra + more - less)
   counted_put read old new at x n more less is_read is_old within few is counts most least =
       let lr : length read ≡ length (get_or cs i []) = ap length (got cs i read [] lt is_read) in
       let lo : length old ≡ length (get_or cs i []) = ap length (got cs i old [] lt is_old) in
@@ -149,14 +149,14 @@ module _ {A : Type 0} {cs : List (List A)} {len extra : ℕ} (counted : IsCounte
       counted_set counted i new (len + 1) (extra + more - less) lt (omega (arith, lr, lo, ln, counts, few)) (omega (arith, lr, lo, ln, counts)) (omega (arith, lr, lo, ln, counts, most, least, part_extra counted i lt))
 
   pub counted_take : (read old new : List A) (at : ℕ) (n more less : ℕ) → read ≡ get_or cs i read → old ≡ get_or cs i old → at < length (get_or cs i []) → n ≤ 64
-      → new ≡ remove old at → n ≡ length read → more ≡ n - 1 - 32 → less ≡ n - 32 → IsCounted (set cs i new) (len - 1) (extra + more - less)
+      → new ≡ remove old at → n ≡ length read → more ≡ n - 1 - 32 → less ≡ n - 32 → AreLengths (set cs i new) (len - 1) (extra + more - less)
   counted_take read old new at n more less is_read is_old within few is counts most least =
       let lr : length read ≡ length (get_or cs i []) = ap length (got cs i read [] lt is_read) in
       let lo : length old ≡ length (get_or cs i []) = ap length (got cs i old [] lt is_old) in
       let ln : length new + 1 ≡ length old = ap (λ l. length l + 1) is ∙ length-remove old at (omega (arith, lo, within)) in
       counted_set counted i new (len - 1) (extra + more - less) lt (omega (arith, lr, lo, ln, counts, few)) (omega (arith, lr, lo, ln, counts, part_len counted i lt)) (omega (arith, lr, lo, ln, counts, most, least, part_extra counted i lt))
 
-  pub counted_replace : (old new : List A) (at : ℕ) (by : A → A) → old ≡ get_or cs i old → at < length (get_or cs i []) → ((d : A) → new ≡ set old at (by d)) → IsCounted (set cs i new) len extra
+  pub counted_replace : (old new : List A) (at : ℕ) (by : A → A) → old ≡ get_or cs i old → at < length (get_or cs i []) → ((d : A) → new ≡ set old at (by d)) → AreLengths (set cs i new) len extra
   counted_replace old new at by is_old within is =
       let x = by (one_of (get_or cs i []) at within) in
       let lo : length old ≡ length (get_or cs i []) = ap length (got cs i old [] lt is_old) in
@@ -164,7 +164,7 @@ module _ {A : Type 0} {cs : List (List A)} {len extra : ℕ} (counted : IsCounte
       counted_set counted i new len extra lt (omega (arith, ln, lo, few_at cs i lt counted.few)) (omega (arith, lo, ln)) (omega (arith, lo, ln))
 
   -- a full chunk leaves its later half to a new one
-  pub counted_split : (old front back : List A) → old ≡ get_or cs i old → length (get_or cs i []) ≡ 64 → front ≡ take 32 old → back ≡ drop 32 old → IsCounted (insert (set cs i front) (i + 1) back) len (extra - 32)
+  pub counted_split : (old front back : List A) → old ≡ get_or cs i old → length (get_or cs i []) ≡ 64 → front ≡ take 32 old → back ≡ drop 32 old → AreLengths (insert (set cs i front) (i + 1) back) len (extra - 32)
   counted_split old front back is_old full is_front is_back =
       let lo : length old ≡ length (get_or cs i []) = ap length (got cs i old [] lt is_old) in
       let lf : length front ≡ 32 = ap length is_front ∙ length-take-le 32 old (omega (arith, lo, full)) in
@@ -173,7 +173,7 @@ module _ {A : Type 0} {cs : List (List A)} {len extra : ℕ} (counted : IsCounte
       counted_insert half (i + 1) back len (extra - 32) (omega (arith, lt, length-set cs i front)) (omega (arith, lb)) (omega (arith, lb, lo, full, part_len counted i lt)) (omega (arith, lb))
 
   -- an empty chunk goes
-  pub counted_without : get_or cs i [] ≡ [] → IsCounted (remove cs i) len extra
+  pub counted_without : get_or cs i [] ≡ [] → AreLengths (remove cs i) len extra
   counted_without none = let l : length (get_or cs i []) ≡ 0 = ap length none in counted_remove counted i len extra lt (omega (arith, l)) (omega (arith, l))
 
 module _ {A : Type 0} where
@@ -181,9 +181,9 @@ module _ {A : Type 0} where
   part_removed cs i lt = get_or-remove_below cs (i + 1) [] i (omega arith) lt
 
   -- a chunk's items go to the end of the one before it
-  pub counted_joined : {cs : List (List A)} {len extra : ℕ} → IsCounted cs len extra → (i : ℕ) (next read old new : List A) (more less least : ℕ) → i + 1 < length cs → next ≡ get_or cs (i + 1) next
+  pub counted_joined : {cs : List (List A)} {len extra : ℕ} → AreLengths cs len extra → (i : ℕ) (next read old new : List A) (more less least : ℕ) → i + 1 < length cs → next ≡ get_or cs (i + 1) next
       → read ≡ get_or (remove cs (i + 1)) i read → old ≡ get_or (remove cs (i + 1)) i old → new ≡ old ++ next → length (get_or cs i []) + length (get_or cs (i + 1) []) ≤ 64
-      → more ≡ (length read + length next) - 32 → less ≡ length read - 32 → least ≡ length next - 32 → IsCounted (set (remove cs (i + 1)) i new) len (extra + more - less - least)
+      → more ≡ (length read + length next) - 32 → less ≡ length read - 32 → least ≡ length next - 32 → AreLengths (set (remove cs (i + 1)) i new) len (extra + more - less - least)
   counted_joined {cs} {len} {extra} counted i next read old new more less least lt is_next is_read is_old is few most lesser last =
       let rest = remove cs (i + 1) in
       let lx : length next ≡ length (get_or cs (i + 1) []) = ap length (got cs (i + 1) next [] lt is_next) in

@@ -1,5 +1,5 @@
 -- What copies of pairs in order are.
-use Rattle.sorted_map.proofs.Common.{AllFew, AllSome, AllZip, Bool, ClonePair, IsClone, IsCounted, IsTotalOrder, List, Ordering, Shown, T, [], ap, arith, false, flat, is_lt, length, over, refl, subst, suc, sym, total, true, ℕ, ◌++◌, ◌∷◌, ◌≡◌}
+use Rattle.sorted_map.proofs.Common.{AllFew, AllSome, AllZip, Bool, ClonePair, IsClone, AreLengths, IsTotalOrder, List, Ordering, Shown, T, [], ap, arith, false, flat, is_lt, length, over, refl, subst, suc, sym, total, true, ℕ, ◌++◌, ◌∷◌, ◌≡◌}
 use Rattle.std.specs.FinMap.Entries.{is_sorted}
 use Rattle.sorted_map.proofs.Bools.{left_of, right_of, both_of, true_of, false_of}
 use Rattle.sorted_map.proofs.PlaceLaws.{less, below_less}
@@ -59,7 +59,7 @@ module _ {A B : Type 0} (P : A → B → Type 0) where
   zip_over (c ∷ cs) [] all = absurd all
   zip_over (c ∷ cs) (d ∷ ds) all = omega (arith, zip_length c d all.0, zip_over cs ds all.1)
 
-  pub zip_counted : {len extra : ℕ} (cs : List (List A)) (ds : List (List B)) → AllZip (AllZip P) cs ds → IsCounted cs len extra → IsCounted ds len extra
+  pub zip_counted : {len extra : ℕ} (cs : List (List A)) (ds : List (List B)) → AllZip (AllZip P) cs ds → AreLengths cs len extra → AreLengths ds len extra
   zip_counted cs ds all counted = record {
     whole = omega (arith, counted.whole, zip_total cs ds all);
     beyond = omega (arith, counted.beyond, zip_over cs ds all);

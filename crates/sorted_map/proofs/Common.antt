@@ -1,9 +1,9 @@
 -- Names of other crates, and of this one's definitions, as the proofs of this crate take them.
-pub use Rattle.sorted_map.specs.Chunks.{AllFew, AllSome, IsCounted, flat, load, over, room_by, room_in, start, total, with_value}
+pub use Rattle.sorted_map.specs.Chunks.{AllFew, AllSome, AreLengths, flat, load, over, room_by, room_in, items_before, total, with_value}
 pub use Rattle.sorted_map.specs.Clones.{ClonePair}
-pub use Rattle.sorted_map.specs.Homes.{IsAbove, IsHome, place_in, starts_above}
+pub use Rattle.sorted_map.specs.Homes.{IsBelowKey, IsHome, place_in, starts_above}
 pub use Rattle.sorted_map.specs.Overlay.{with_pairs}
-pub use Rattle.sorted_map.specs.Places.{IsAt, IsGap, IsPlace}
+pub use Rattle.sorted_map.specs.Places.{IsKeyAt, IsGap, IsPlace}
 pub use Rattle.sorted_map.specs.SortedMap.{IsClone, Shown, TellsApart, after, contents, is_from, pairs_eq}
 pub use Rattle.sorted_map.specs.Stores.{shown_by}
 pub use Rattle.std.proofs.Common.{Bool, Decides, Equal, Err, Greater, Less, List, Ok, Ordering, Result, Some, T, [], add-one, ap, append_assoc, arith, drop, eq-eqb, eqb-true, false, get_or, inl, inr, insert, is_eq, is_lt, length, length-append, length-drop, length-set, length-take-le, not, option_map, refl, remove, reverse, rules, set, slice_get, subst, suc, sym, take, true, vec_capacity, vec_len, zero, ℕ, ◌*◌, ◌++◌, ◌+◌, ◌-◌, ◌/◌, ◌<◌, ◌∙◌, ◌∷◌, ◌≡◌, ◌≤◌, ◌⊎◌}

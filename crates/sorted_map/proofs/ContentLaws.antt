@@ -7,7 +7,7 @@ use Rattle.std.specs.FinMap as map
 use Rattle.std.specs.FinMap.{IsAntisymmetric, entries-from_sorted, get-from_sorted, same_entries_map, entries-insert, get-remove, get-retain_keys, same_map, len-entries, empty_of_len}
 use Rattle.std.specs.FinMap.Entries.{find, put, where_key, is_sorted, is_sorted-put, is_sorted-where_key, find-where_key}
 use Rattle.sorted_map.specs.SortedMap.{first_pair, last_pair}
-use Rattle.sorted_map.specs.Places.{IsAt, IsGap}
+use Rattle.sorted_map.specs.Places.{IsKeyAt, IsGap}
 use Rattle.sorted_map.proofs.PlaceLaws.{find_at, find_gap, tied_at, first_at, put_at, put_gap, others_at, others_gap}
 use Rattle.sorted_map.proofs.MapLaws.{swapped as turned}
 
@@ -55,10 +55,10 @@ module _ {K V : Type 0} (R : K → K → Ordering) (es : List (K × V)) (s : T (
   rest_shown part i fs same e = take_rest fs i ∙ sym e ∙ ap part (same ∙ sym (entries-from_sorted R es s))
 
   -- what is found at the place of a key, and at its gap
-  pub value_at : (k : K) (i : ℕ) (d : K × V) → IsAt R k es i → Some (get_or es i d).1 ≡ map.get (map.from_sorted {R = R} es) k
+  pub value_at : (k : K) (i : ℕ) (d : K × V) → IsKeyAt R k es i → Some (get_or es i d).1 ≡ map.get (map.from_sorted {R = R} es) k
   value_at k i d h = sym (find_at R k es i d h) ∙ sym (get-from_sorted R es k s)
 
-  pub got_at : (k : K) (i : ℕ) (x : K × V) → IsAt R k es i → x ≡ get_or es i x → Some x.1 ≡ map.get (map.from_sorted {R = R} es) k
+  pub got_at : (k : K) (i : ℕ) (x : K × V) → IsKeyAt R k es i → x ≡ get_or es i x → Some x.1 ≡ map.get (map.from_sorted {R = R} es) k
   got_at k i x h e = ap (λ y. Some y.1) e ∙ value_at k i x h
 
   pub got_gap : (k : K) (i : ℕ) → IsGap R k es i → None ≡ map.get (map.from_sorted {R = R} es) k
@@ -71,11 +71,11 @@ module _ {K V : Type 0} {R : K → K → Ordering} (o : IsTotalOrder R) where
       let sorted : T (is_sorted R fs) = subst (λ t. T (is_sorted R t)) (sym e) (is_sorted-put R o k v es s) in
       (sorted, same_entries_map _ _ (entries-from_sorted R fs sorted ∙ e ∙ ap (put R k v) (sym (entries-from_sorted R es s)) ∙ sym (entries-insert o (map.from_sorted es) k v)))
 
-  pub put_in_place : (k : K) (v : V) (es fs : List (K × V)) (i : ℕ) → T (is_sorted R es) → IsAt R k es i → ((d : K × V) → fs ≡ set es i ((get_or es i d).0, v)) → T (is_sorted R fs) × (map.from_sorted {R = R} fs ≡ map.insert (map.from_sorted es) k v)
+  pub put_in_place : (k : K) (v : V) (es fs : List (K × V)) (i : ℕ) → T (is_sorted R es) → IsKeyAt R k es i → ((d : K × V) → fs ≡ set es i ((get_or es i d).0, v)) → T (is_sorted R fs) × (map.from_sorted {R = R} fs ≡ map.insert (map.from_sorted es) k v)
   put_in_place k v es fs i s h e = inserted k v es fs s (e (k, v) ∙ sym (put_at R k v es i (k, v) h))
 
   -- a value that is written at the place of a key
-  pub written_at : (k : K) (w : V) (es : List (K × V)) (i : ℕ) (x : K × V) → T (is_sorted R es) → IsAt R k es i → x ≡ get_or es i x → T (is_sorted R (set es i (x.0, w))) × (set es i (x.0, w) ≡ map.entries (map.insert (map.from_sorted {R = R} es) k w))
+  pub written_at : (k : K) (w : V) (es : List (K × V)) (i : ℕ) (x : K × V) → T (is_sorted R es) → IsKeyAt R k es i → x ≡ get_or es i x → T (is_sorted R (set es i (x.0, w))) × (set es i (x.0, w) ≡ map.entries (map.insert (map.from_sorted {R = R} es) k w))
   written_at k w es i x s h e =
       let new = inserted k w es (set es i (x.0, w)) s (ap (λ y. set es i (y.0, w)) e ∙ sym (put_at R k w es i x h)) in
       (new.0, sym (entries-from_sorted R _ new.0) ∙ ap map.entries new.1)
@@ -97,7 +97,7 @@ module _ {K V : Type 0} {R : K → K → Ordering} (o : IsTotalOrder R) where
               ∙ sym (get-remove o (map.from_sorted es) k q)),
         )
 
-    pub taken_at : (k : K) (es fs : List (K × V)) (i : ℕ) → T (is_sorted R es) → IsAt R k es i → fs ≡ remove es i → T (is_sorted R fs) × (map.from_sorted {R = R} fs ≡ map.remove (map.from_sorted es) k)
+    pub taken_at : (k : K) (es fs : List (K × V)) (i : ℕ) → T (is_sorted R es) → IsKeyAt R k es i → fs ≡ remove es i → T (is_sorted R fs) × (map.from_sorted {R = R} fs ≡ map.remove (map.from_sorted es) k)
     taken_at k es fs i s h e = removed k es fs s (e ∙ sym (others_at R k es i h))
 
     pub first_taken : (es fs : List (K × V)) (x : K × V) → T (is_sorted R es) → 0 < length es → x ≡ get_or es 0 x → fs ≡ remove es 0 → T (is_sorted R fs) × (map.from_sorted {R = R} fs ≡ map.remove (map.from_sorted es) x.0)
@@ -107,7 +107,7 @@ module _ {K V : Type 0} {R : K → K → Ordering} (o : IsTotalOrder R) where
     taken_gap k es i s h = (removed k es es s (sym (others_gap R k es i h))).1
 
     -- the pair that is taken is the key with its value
-    pub pair_taken : (k : K) (es : List (K × V)) (i : ℕ) (x : K × V) → T (is_sorted R es) → IsAt R k es i → x ≡ get_or es i x → Some x ≡ option_map (λ v. (k, v)) (map.get (map.from_sorted {R = R} es) k)
+    pub pair_taken : (k : K) (es : List (K × V)) (i : ℕ) (x : K × V) → T (is_sorted R es) → IsKeyAt R k es i → x ≡ get_or es i x → Some x ≡ option_map (λ v. (k, v)) (map.get (map.from_sorted {R = R} es) k)
     pair_taken k es i x s h e =
         ap (λ y. Some (y, x.1)) (sym (exact k x.0 (subst (λ y. R k y.0 ≡ Equal) (sym e) (tied_at R k es i x h))))
         ∙ ap (option_map (λ v. (k, v))) (got_at R es s k i x h e)

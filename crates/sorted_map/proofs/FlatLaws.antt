@@ -1,5 +1,5 @@
 -- What an edit in one chunk is among all the items.
-use Rattle.sorted_map.proofs.Common.{AllSome, List, [], ap, append-nil, append_assoc, arith, drop, false≢true, flat, get_or, insert, length, length-append, refl, remove, set, slice_get, start, subst, suc, sym, with_value, zero, ℕ, ◌++◌, ◌+◌, ◌-◌, ◌<◌, ◌==◌, ◌∙◌, ◌∷◌, ◌≡◌, ◌≤◌}
+use Rattle.sorted_map.proofs.Common.{AllSome, List, [], ap, append-nil, append_assoc, arith, drop, false≢true, flat, get_or, insert, length, length-append, refl, remove, set, slice_get, items_before, subst, suc, sym, with_value, zero, ℕ, ◌++◌, ◌+◌, ◌-◌, ◌<◌, ◌==◌, ◌∙◌, ◌∷◌, ◌≡◌, ◌≤◌}
 use Rattle.std.specs.Prelude.{false}
 use Rattle.sorted_map.proofs.ChunkLaws.{got, got_default}
 
@@ -13,10 +13,10 @@ module _ {A : Type 0} where
     behind (e ∷ c) fs i zero is = absurd (omega (arith, is))
     behind (e ∷ c) fs i (suc n) is = step e (c ++ fs) n ∙ ap (λ t. e ∷ t) (behind c fs i n (omega (arith, is)))
 
-    edited : (cs : List (List A)) (i at : ℕ) → i < length cs → Fits (get_or cs i []) at → flat (set cs i (f (get_or cs i []) at)) ≡ f (flat cs) (start cs i + at)
+    edited : (cs : List (List A)) (i at : ℕ) → i < length cs → Fits (get_or cs i []) at → flat (set cs i (f (get_or cs i []) at)) ≡ f (flat cs) (items_before cs i + at)
     edited [] i at lt fits = absurd (omega (arith, lt))
     edited (c ∷ cs) zero at lt fits = sym (front c (flat cs) at fits) ∙ ap (f (c ++ flat cs)) (omega arith)
-    edited (c ∷ cs) (suc i) at lt fits = ap (λ t. c ++ t) (edited cs i at (omega (arith, lt)) fits) ∙ sym (behind c (flat cs) (start cs i + at) (start (c ∷ cs) (suc i) + at) (omega arith))
+    edited (c ∷ cs) (suc i) at lt fits = ap (λ t. c ++ t) (edited cs i at (omega (arith, lt)) fits) ∙ sym (behind c (flat cs) (items_before cs i + at) (items_before (c ∷ cs) (suc i) + at) (omega arith))
 
   set_front : (x : A) (c fs : List A) (at : ℕ) → at < length c → set (c ++ fs) at x ≡ set c at x ++ fs
   set_front x [] fs at lt = absurd (omega (arith, lt))
@@ -34,13 +34,13 @@ module _ {A : Type 0} where
   remove_front (e ∷ c) fs zero lt = refl
   remove_front (e ∷ c) fs (suc at) lt = ap (λ t. e ∷ t) (remove_front c fs at (omega (arith, lt)))
 
-  pub flat_set : (cs : List (List A)) (i at : ℕ) (x : A) → i < length cs → at < length (get_or cs i []) → flat (set cs i (set (get_or cs i []) at x)) ≡ set (flat cs) (start cs i + at) x
+  pub flat_set : (cs : List (List A)) (i at : ℕ) (x : A) → i < length cs → at < length (get_or cs i []) → flat (set cs i (set (get_or cs i []) at x)) ≡ set (flat cs) (items_before cs i + at) x
   flat_set cs i at x lt within = edited (λ es n. set es n x) (λ e es n. refl) (λ c n. n < length c) (set_front x) cs i at lt within
 
-  pub flat_insert : (cs : List (List A)) (i at : ℕ) (x : A) → i < length cs → at ≤ length (get_or cs i []) → flat (set cs i (insert (get_or cs i []) at x)) ≡ insert (flat cs) (start cs i + at) x
+  pub flat_insert : (cs : List (List A)) (i at : ℕ) (x : A) → i < length cs → at ≤ length (get_or cs i []) → flat (set cs i (insert (get_or cs i []) at x)) ≡ insert (flat cs) (items_before cs i + at) x
   flat_insert cs i at x lt within = edited (λ es n. insert es n x) (λ e es n. refl) (λ c n. n ≤ length c) (insert_front x) cs i at lt within
 
-  pub flat_remove : (cs : List (List A)) (i at : ℕ) → i < length cs → at < length (get_or cs i []) → flat (set cs i (remove (get_or cs i []) at)) ≡ remove (flat cs) (start cs i + at)
+  pub flat_remove : (cs : List (List A)) (i at : ℕ) → i < length cs → at < length (get_or cs i []) → flat (set cs i (remove (get_or cs i []) at)) ≡ remove (flat cs) (items_before cs i + at)
   flat_remove cs i at lt within = edited remove (λ e es n. refl) (λ c n. n < length c) remove_front cs i at lt within
 
   get_front : (c fs : List A) (at : ℕ) (d : A) → at < length c → get_or (c ++ fs) at d ≡ get_or c at d
@@ -53,10 +53,10 @@ module _ {A : Type 0} where
   get_behind (e ∷ c) fs i zero d is = absurd (omega (arith, is))
   get_behind (e ∷ c) fs i (suc n) d is = get_behind c fs i n d (omega (arith, is))
 
-  pub flat_get : (cs : List (List A)) (i at : ℕ) (d : A) → at < length (get_or cs i []) → get_or (flat cs) (start cs i + at) d ≡ get_or (get_or cs i []) at d
+  pub flat_get : (cs : List (List A)) (i at : ℕ) (d : A) → at < length (get_or cs i []) → get_or (flat cs) (items_before cs i + at) d ≡ get_or (get_or cs i []) at d
   flat_get [] i at d lt = absurd (omega (arith, lt))
   flat_get (c ∷ cs) zero at d lt = ap (λ n. get_or (c ++ flat cs) n d) {y = at} (omega arith) ∙ get_front c (flat cs) at d lt
-  flat_get (c ∷ cs) (suc i) at d lt = get_behind c (flat cs) (start cs i + at) (start (c ∷ cs) (suc i) + at) d (omega arith) ∙ flat_get cs i at d lt
+  flat_get (c ∷ cs) (suc i) at d lt = get_behind c (flat cs) (items_before cs i + at) (items_before (c ∷ cs) (suc i) + at) d (omega arith) ∙ flat_get cs i at d lt
 
   drop_front : (c fs : List A) (at : ℕ) → at ≤ length c → drop at (c ++ fs) ≡ drop at c ++ fs
   drop_front [] fs zero le = refl
@@ -70,11 +70,11 @@ module _ {A : Type 0} where
   drop_behind (e ∷ c) fs i (suc n) is = drop_behind c fs i n (omega (arith, is))
 
   -- the items from a place on: those of its chunk, and the chunks behind it
-  pub flat_drop : (cs : List (List A)) (i at : ℕ) → i < length cs → at ≤ length (get_or cs i []) → drop (start cs i + at) (flat cs) ≡ drop at (get_or cs i []) ++ flat (drop (i + 1) cs)
+  pub flat_drop : (cs : List (List A)) (i at : ℕ) → i < length cs → at ≤ length (get_or cs i []) → drop (items_before cs i + at) (flat cs) ≡ drop at (get_or cs i []) ++ flat (drop (i + 1) cs)
   flat_drop [] i at lt le = absurd (omega (arith, lt))
   flat_drop (c ∷ cs) zero at lt le = ap (λ n. drop n (c ++ flat cs)) {y = at} (omega arith) ∙ drop_front c (flat cs) at le
   flat_drop (c ∷ cs) (suc i) at lt le =
-      drop_behind c (flat cs) (start cs i + at) (start (c ∷ cs) (suc i) + at) (omega arith)
+      drop_behind c (flat cs) (items_before cs i + at) (items_before (c ∷ cs) (suc i) + at) (omega arith)
       ∙ flat_drop cs i at (omega (arith, lt)) le
       ∙ ap (λ n. drop at (get_or cs i []) ++ flat (drop n (c ∷ cs))) {x = suc (i + 1)} (omega arith)
 
@@ -91,16 +91,16 @@ module _ {A : Type 0} where
   flat_split (c ∷ cs) (suc i) a b lt whole =
       ap (λ n. flat (insert (c ∷ set cs i a) n b)) {y = suc (i + 1)} (omega arith) ∙ ap (λ t. c ++ t) (flat_split cs i a b (omega (arith, lt)) whole)
 
-  pub start_split : (cs : List (List A)) (i : ℕ) (a b : List A) → i < length cs → start (insert (set cs i a) (i + 1) b) i ≡ start cs i
+  pub start_split : (cs : List (List A)) (i : ℕ) (a b : List A) → i < length cs → items_before (insert (set cs i a) (i + 1) b) i ≡ items_before cs i
   start_split [] i a b lt = absurd (omega (arith, lt))
   start_split (c ∷ cs) zero a b lt = refl
-  start_split (c ∷ cs) (suc i) a b lt = ap (λ n. start (insert (c ∷ set cs i a) n b) (suc i)) {y = suc (i + 1)} (omega arith) ∙ ap (λ n. length c + n) (start_split cs i a b (omega (arith, lt)))
+  start_split (c ∷ cs) (suc i) a b lt = ap (λ n. items_before (insert (c ∷ set cs i a) n b) (suc i)) {y = suc (i + 1)} (omega arith) ∙ ap (λ n. length c + n) (start_split cs i a b (omega (arith, lt)))
 
-  pub start_split_next : (cs : List (List A)) (i : ℕ) (a b : List A) → i < length cs → start (insert (set cs i a) (i + 1) b) (i + 1) ≡ start cs i + length a
+  pub start_split_next : (cs : List (List A)) (i : ℕ) (a b : List A) → i < length cs → items_before (insert (set cs i a) (i + 1) b) (i + 1) ≡ items_before cs i + length a
   start_split_next [] i a b lt = absurd (omega (arith, lt))
   start_split_next (c ∷ cs) zero a b lt = omega arith
   start_split_next (c ∷ cs) (suc i) a b lt =
-      ap (λ n. start (insert (c ∷ set cs i a) n b) n) {y = suc (i + 1)} (omega arith) ∙ ap (λ n. length c + n) (start_split_next cs i a b (omega (arith, lt))) ∙ omega arith
+      ap (λ n. items_before (insert (c ∷ set cs i a) n b) n) {y = suc (i + 1)} (omega arith) ∙ ap (λ n. length c + n) (start_split_next cs i a b (omega (arith, lt))) ∙ omega arith
 
   pub get_split : (cs : List (List A)) (i : ℕ) (a b : List A) → i < length cs → get_or (insert (set cs i a) (i + 1) b) i [] ≡ a
   get_split [] i a b lt = absurd (omega (arith, lt))
@@ -188,7 +188,7 @@ module _ {A : Type 0} where
 
   -- ---- the last chunk
 
-  pub start_end : (cs : List (List A)) (i : ℕ) → i + 1 ≡ length cs → start cs i + length (get_or cs i []) ≡ length (flat cs)
+  pub start_end : (cs : List (List A)) (i : ℕ) → i + 1 ≡ length cs → items_before cs i + length (get_or cs i []) ≡ length (flat cs)
   start_end [] i last = absurd (omega (arith, last))
   start_end (c ∷ []) zero last = omega (arith, length-append c [])
   start_end (c ∷ d ∷ cs) zero last = absurd (omega (arith, last))
@@ -225,17 +225,17 @@ module _ {A : Type 0} where
   put_in_new cs opened new n x len is put =
       put ∙ ap (λ l. set l n (insert (get_or l n []) 0 x)) is ∙ ap (λ c. set (cs ++ [] ∷ []) n (insert c 0 x)) (get_end cs n [] len) ∙ set_end cs n [] (x ∷ []) len
 
-  pub flat_in_new : (cs new : List (List A)) (i : ℕ) (x : A) → i + 1 ≡ length cs → new ≡ cs ++ (x ∷ []) ∷ [] → flat new ≡ insert (flat cs) (start cs i + length (get_or cs i [])) x
+  pub flat_in_new : (cs new : List (List A)) (i : ℕ) (x : A) → i + 1 ≡ length cs → new ≡ cs ++ (x ∷ []) ∷ [] → flat new ≡ insert (flat cs) (items_before cs i + length (get_or cs i [])) x
   flat_in_new cs new i x last is =
-      ap flat is ∙ flat_end cs (x ∷ []) ∙ sym (insert_end (flat cs) (start cs i + length (get_or cs i [])) x (omega (arith, start_end cs i last)))
+      ap flat is ∙ flat_end cs (x ∷ []) ∙ sym (insert_end (flat cs) (items_before cs i + length (get_or cs i [])) x (omega (arith, start_end cs i last)))
 
   pub some_in_new : (cs new : List (List A)) (x : A) → AllSome cs → new ≡ cs ++ (x ∷ []) ∷ [] → AllSome new
   some_in_new cs new x all is = subst AllSome (sym is) (some_end cs (x ∷ []) all (omega arith))
 
 -- what is read at a place of a chunk
-pub there : {A : Type 0} (row cs : List (List A)) (i at : ℕ) (c pairs : List A) (d : A) → row ≡ cs → i < length row → at < length (get_or row i []) → c ≡ get_or row i c → pairs ≡ c → get_or pairs at d ≡ get_or (flat cs) (start cs i + at) d
+pub there : {A : Type 0} (row cs : List (List A)) (i at : ℕ) (c pairs : List A) (d : A) → row ≡ cs → i < length row → at < length (get_or row i []) → c ≡ get_or row i c → pairs ≡ c → get_or pairs at d ≡ get_or (flat cs) (items_before cs i + at) d
 there row cs i at c pairs d same lt within is are =
-    ap (λ l. get_or l at d) (are ∙ got row i c [] lt is) ∙ sym (flat_get row i at d within) ∙ ap (λ r. get_or (flat r) (start r i + at) d) same
+    ap (λ l. get_or l at d) (are ∙ got row i c [] lt is) ∙ sym (flat_get row i at d within) ∙ ap (λ r. get_or (flat r) (items_before r i + at) d) same
 
 pub not_none : {A : Type 0} (xs : List A) → (length xs == 0) ≡ false → 0 < length xs
 not_none [] h = absurd (false≢true (sym h))
@@ -246,7 +246,7 @@ pub read_len : {A : Type 0} (row cs : List (List A)) (i n : ℕ) (c : List A) �
 read_len row cs i n c same lt is len = len ∙ ap length (got row i c [] lt is) ∙ ap (λ r. length (get_or r i [])) same
 
 -- nothing stands before the first chunk
-pub start_none : {A : Type 0} (cs : List (List A)) → start cs 0 + 0 ≡ 0
+pub start_none : {A : Type 0} (cs : List (List A)) → items_before cs 0 + 0 ≡ 0
 start_none [] = refl
 start_none (c ∷ cs) = refl
 
@@ -262,11 +262,11 @@ value_length (e ∷ es) zero w = refl
 value_length (e ∷ es) (suc at) w = ap suc (value_length es at w)
 
 -- a value that is written in a chunk, and the pair that is there after it
-pub value_flat : {K V : Type 0} (cs : List (List (K × V))) (i at : ℕ) (d : K × V) (w : V) → i < length cs → at < length (get_or cs i []) → flat (set cs i (with_value (get_or cs i []) at w)) ≡ set (flat cs) (start cs i + at) ((get_or (flat cs) (start cs i + at) d).0, w)
+pub value_flat : {K V : Type 0} (cs : List (List (K × V))) (i at : ℕ) (d : K × V) (w : V) → i < length cs → at < length (get_or cs i []) → flat (set cs i (with_value (get_or cs i []) at w)) ≡ set (flat cs) (items_before cs i + at) ((get_or (flat cs) (items_before cs i + at) d).0, w)
 value_flat cs i at d w lt within =
     let x = get_or (get_or cs i []) at d in
     let is = got_default (get_or cs i []) at d x within in
-    ap (λ c. flat (set cs i c)) (sym (value_set (get_or cs i []) at x w within is)) ∙ flat_set cs i at (x.0, w) lt within ∙ ap (λ y. set (flat cs) (start cs i + at) (y.0, w)) (sym (flat_get cs i at d within))
+    ap (λ c. flat (set cs i c)) (sym (value_set (get_or cs i []) at x w within is)) ∙ flat_set cs i at (x.0, w) lt within ∙ ap (λ y. set (flat cs) (items_before cs i + at) (y.0, w)) (sym (flat_get cs i at d within))
 
 pub some_drop : {A : Type 0} (cs : List (List A)) (i : ℕ) → AllSome cs → AllSome (drop i cs)
 some_drop cs zero all = all

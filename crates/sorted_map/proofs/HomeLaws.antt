@@ -1,5 +1,5 @@
 -- The chunk of a key, and what a place in it is among all the pairs.
-use Rattle.sorted_map.proofs.Common.{AllSome, Equal, Err, Greater, IsAbove, IsAt, IsGap, IsHome, IsPlace, IsTotalOrder, Less, List, Ok, Ordering, Result, T, [], alike_right, ap, arith, below_all, false, false≢true, flat, get_or, inl, inr, is_lt, length, place_in, refl, start, starts_above, subst, suc, sym, true, zero, ℕ, ◌++◌, ◌+◌, ◌<◌, ◌∙◌, ◌∷◌, ◌≡◌, ◌⊎◌}
+use Rattle.sorted_map.proofs.Common.{AllSome, Equal, Err, Greater, IsBelowKey, IsKeyAt, IsGap, IsHome, IsPlace, IsTotalOrder, Less, List, Ok, Ordering, Result, T, [], alike_right, ap, arith, below_all, false, false≢true, flat, get_or, inl, inr, is_lt, length, place_in, refl, items_before, starts_above, subst, suc, sym, true, zero, ℕ, ◌++◌, ◌+◌, ◌<◌, ◌∙◌, ◌∷◌, ◌≡◌, ◌⊎◌}
 use Rattle.std.specs.FinMap.Entries.{is_sorted}
 use Rattle.sorted_map.proofs.Bools.{left_of, right_of, both_of}
 use Rattle.sorted_map.proofs.FlatLaws.{some_at}
@@ -18,30 +18,30 @@ module _ {K V : Type 0} (R : K → K → Ordering) (k : K) where
   gap_front (e ∷ c) fs zero h rest = (h.0, gap_before c fs h.1 rest)
   gap_front (e ∷ c) fs (suc i) h rest = (h.0, gap_front c fs i h.1 rest)
 
-  at_front : (c fs : List (K × V)) (i : ℕ) → IsAt R k c i → IsGap R k fs zero → IsAt R k (c ++ fs) i
+  at_front : (c fs : List (K × V)) (i : ℕ) → IsKeyAt R k c i → IsGap R k fs zero → IsKeyAt R k (c ++ fs) i
   at_front [] fs i h rest = absurd h
   at_front (e ∷ c) fs zero h rest = (h.0, gap_before c fs h.1 rest)
   at_front (e ∷ c) fs (suc i) h rest = (h.0, at_front c fs i h.1 rest)
 
-  gap_behind : (c fs : List (K × V)) (i n : ℕ) → n ≡ length c + i → IsAbove R k c → IsGap R k fs i → IsGap R k (c ++ fs) n
+  gap_behind : (c fs : List (K × V)) (i n : ℕ) → n ≡ length c + i → IsBelowKey R k c → IsGap R k fs i → IsGap R k (c ++ fs) n
   gap_behind [] fs i n is above h = subst (IsGap R k fs) (omega (arith, is)) h
   gap_behind (e ∷ c) fs i zero is above h = absurd (omega (arith, is))
   gap_behind (e ∷ c) fs i (suc n) is above h = (above.0, gap_behind c fs i n (omega (arith, is)) above.1 h)
 
-  at_behind : (c fs : List (K × V)) (i n : ℕ) → n ≡ length c + i → IsAbove R k c → IsAt R k fs i → IsAt R k (c ++ fs) n
-  at_behind [] fs i n is above h = subst (IsAt R k fs) (omega (arith, is)) h
+  at_behind : (c fs : List (K × V)) (i n : ℕ) → n ≡ length c + i → IsBelowKey R k c → IsKeyAt R k fs i → IsKeyAt R k (c ++ fs) n
+  at_behind [] fs i n is above h = subst (IsKeyAt R k fs) (omega (arith, is)) h
   at_behind (e ∷ c) fs i zero is above h = absurd (omega (arith, is))
   at_behind (e ∷ c) fs i (suc n) is above h = (above.0, at_behind c fs i n (omega (arith, is)) above.1 h)
 
-  at_home : (cs : List (List (K × V))) (i at : ℕ) → IsHome R k cs i → IsAt R k (get_or cs i []) at → IsAt R k (flat cs) (start cs i + at)
+  at_home : (cs : List (List (K × V))) (i at : ℕ) → IsHome R k cs i → IsKeyAt R k (get_or cs i []) at → IsKeyAt R k (flat cs) (items_before cs i + at)
   at_home [] i at home h = absurd home
-  at_home (c ∷ cs) zero at home h = subst (IsAt R k (c ++ flat cs)) (omega arith) (at_front c (flat cs) at h home)
-  at_home (c ∷ cs) (suc i) at home h = at_behind c (flat cs) (start cs i + at) (start (c ∷ cs) (suc i) + at) (omega arith) home.0 (at_home cs i at home.1 h)
+  at_home (c ∷ cs) zero at home h = subst (IsKeyAt R k (c ++ flat cs)) (omega arith) (at_front c (flat cs) at h home)
+  at_home (c ∷ cs) (suc i) at home h = at_behind c (flat cs) (items_before cs i + at) (items_before (c ∷ cs) (suc i) + at) (omega arith) home.0 (at_home cs i at home.1 h)
 
-  gap_home : (cs : List (List (K × V))) (i at : ℕ) → IsHome R k cs i → IsGap R k (get_or cs i []) at → IsGap R k (flat cs) (start cs i + at)
+  gap_home : (cs : List (List (K × V))) (i at : ℕ) → IsHome R k cs i → IsGap R k (get_or cs i []) at → IsGap R k (flat cs) (items_before cs i + at)
   gap_home [] i at home h = absurd home
   gap_home (c ∷ cs) zero at home h = subst (IsGap R k (c ++ flat cs)) (omega arith) (gap_front c (flat cs) at h home)
-  gap_home (c ∷ cs) (suc i) at home h = gap_behind c (flat cs) (start cs i + at) (start (c ∷ cs) (suc i) + at) (omega arith) home.0 (gap_home cs i at home.1 h)
+  gap_home (c ∷ cs) (suc i) at home h = gap_behind c (flat cs) (items_before cs i + at) (items_before (c ∷ cs) (suc i) + at) (omega arith) home.0 (gap_home cs i at home.1 h)
 
   -- a place among the first pairs, where the key is less than the others
   pub place_front : (c fs : List (K × V)) (r : Result ℕ ℕ) → IsPlace R k c r → IsGap R k fs zero → IsPlace R k (c ++ fs) r
@@ -107,7 +107,7 @@ module _ {K V : Type 0} {R : K → K → Ordering} (o : IsTotalOrder R) (k : K) 
   past_first x [] some h n = absurd (omega (arith, some))
   past_first x (e ∷ c) some h n = past o k x e.0 (less _ (left_of _ _ h)) n
 
-  above_found : (c : List (K × V)) (cs : List (List (K × V))) (i : ℕ) → T (is_sorted R (c ++ flat cs)) → 0 < length (get_or cs i []) → starts_above R k (get_or cs i []) ≡ false → IsAbove R k c
+  above_found : (c : List (K × V)) (cs : List (List (K × V))) (i : ℕ) → T (is_sorted R (c ++ flat cs)) → 0 < length (get_or cs i []) → starts_above R k (get_or cs i []) ≡ false → IsBelowKey R k c
   above_found [] cs i s some n = tt
   above_found (e ∷ c) cs i s some n =
       (past_first e.0 (get_or cs i []) some (below_part R e.0 cs i (below_back R e.0 c (flat cs) (left_of _ _ s))) n, above_found c cs i (right_of _ _ s) some n)

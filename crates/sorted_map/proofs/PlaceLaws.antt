@@ -9,7 +9,7 @@ use Rattle.std.specs.FinMap.Entries.{find, put, where_key, is_sorted, below_all}
 use Rattle.sorted_map.proofs.Bools.{left_of, right_of, both_of, true_of, false_of}
 use Rattle.sorted_map.specs.SortedMap.{after, is_from}
 use Rattle.sorted_map.specs.Homes.{starts_above}
-use Rattle.sorted_map.specs.Places.{IsAt, IsGap, IsPlace}
+use Rattle.sorted_map.specs.Places.{IsKeyAt, IsGap, IsPlace}
 
 pub less : (r : Ordering) → T (is_lt r) → r ≡ Less
 less Less p = refl
@@ -29,12 +29,12 @@ module _ {K V : Type 0} (R : K → K → Ordering) (k : K) where
   find_gap (e ∷ es) zero h = rw h.0 (find_gap es zero h.1)
   find_gap (e ∷ es) (suc i) h = rw h.0 (find_gap es i h.1)
 
-  pub find_at : (es : List (K × V)) (i : ℕ) (d : K × V) → IsAt R k es i → find R k es ≡ Some (get_or es i d).1
+  pub find_at : (es : List (K × V)) (i : ℕ) (d : K × V) → IsKeyAt R k es i → find R k es ≡ Some (get_or es i d).1
   find_at [] i d h = absurd h
   find_at (e ∷ es) zero d h = rw h.0
   find_at (e ∷ es) (suc i) d h = rw h.0 (find_at es i d h.1)
 
-  pub tied_at : (es : List (K × V)) (i : ℕ) (d : K × V) → IsAt R k es i → R k (get_or es i d).0 ≡ Equal
+  pub tied_at : (es : List (K × V)) (i : ℕ) (d : K × V) → IsKeyAt R k es i → R k (get_or es i d).0 ≡ Equal
   tied_at [] i d h = absurd h
   tied_at (e ∷ es) zero d h = h.0
   tied_at (e ∷ es) (suc i) d h = tied_at es i d h.1
@@ -45,7 +45,7 @@ module _ {K V : Type 0} (R : K → K → Ordering) (k : K) where
   put_gap v (e ∷ es) zero h = rw h.0
   put_gap v (e ∷ es) (suc i) h = rw h.0 (ap (λ t. e ∷ t) (put_gap v es i h.1))
 
-  pub put_at : (v : V) (es : List (K × V)) (i : ℕ) (d : K × V) → IsAt R k es i → put R k v es ≡ set es i ((get_or es i d).0, v)
+  pub put_at : (v : V) (es : List (K × V)) (i : ℕ) (d : K × V) → IsKeyAt R k es i → put R k v es ≡ set es i ((get_or es i d).0, v)
   put_at v [] i d h = absurd h
   put_at v (e ∷ es) zero d h = rw h.0
   put_at v (e ∷ es) (suc i) d h = rw h.0 (ap (λ t. e ∷ t) (put_at v es i d h.1))
@@ -55,7 +55,7 @@ module _ {K V : Type 0} (R : K → K → Ordering) (k : K) where
   others_gap (e ∷ es) zero h = rw h.0 (ap (λ t. e ∷ t) (others_gap es zero h.1))
   others_gap (e ∷ es) (suc i) h = rw h.0 (ap (λ t. e ∷ t) (others_gap es i h.1))
 
-  pub others_at : (es : List (K × V)) (i : ℕ) → IsAt R k es i → where_key R (λ x. not (eq_by_cmp R k x)) es ≡ remove es i
+  pub others_at : (es : List (K × V)) (i : ℕ) → IsKeyAt R k es i → where_key R (λ x. not (eq_by_cmp R k x)) es ≡ remove es i
   others_at [] i h = absurd h
   others_at (e ∷ es) zero h = rw h.0 (others_gap es zero h.1)
   others_at (e ∷ es) (suc i) h = rw h.0 (ap (λ t. e ∷ t) (others_at es i h.1))
@@ -66,7 +66,7 @@ module _ {K V : Type 0} (R : K → K → Ordering) (k : K) where
   after_gap (e ∷ es) zero h = rw h.0 (ap (λ t. e ∷ t) (after_gap es zero h.1))
   after_gap (e ∷ es) (suc i) h = rw h.0 (after_gap es i h.1)
 
-  pub after_at : (es : List (K × V)) (i : ℕ) → IsAt R k es i → after R k es ≡ drop (suc i) es
+  pub after_at : (es : List (K × V)) (i : ℕ) → IsKeyAt R k es i → after R k es ≡ drop (suc i) es
   after_at [] i h = absurd h
   after_at (e ∷ es) zero h = rw h.0 (after_gap es zero h.1)
   after_at (e ∷ es) (suc i) h = rw h.0 (after_at es i h.1)
@@ -77,7 +77,7 @@ module _ {K V : Type 0} (R : K → K → Ordering) (k : K) where
   from_gap (e ∷ es) zero h = rw h.0 (ap (λ t. e ∷ t) (from_gap es zero h.1))
   from_gap (e ∷ es) (suc i) h = rw h.0 (from_gap es i h.1)
 
-  pub from_at : (es : List (K × V)) (i : ℕ) → IsAt R k es i → where_key R (is_from R k) es ≡ drop i es
+  pub from_at : (es : List (K × V)) (i : ℕ) → IsKeyAt R k es i → where_key R (is_from R k) es ≡ drop i es
   from_at [] i h = absurd h
   from_at (e ∷ es) zero h = rw h.0 (ap (λ t. e ∷ t) (from_gap es zero h.1))
   from_at (e ∷ es) (suc i) h = rw h.0 (from_at es i h.1)
@@ -122,7 +122,7 @@ module _ {K V : Type 0} {R : K → K → Ordering} (o : IsTotalOrder R) where
   starts_below k (e ∷ es) i gap = ap is_lt gap.0
 
   -- a key that ties with one of a list
-  pub at_tied : (k : K) (es : List (K × V)) (i : ℕ) (d : K × V) → T (is_sorted R es) → i < length es → R k (get_or es i d).0 ≡ Equal → IsGap R k (drop (suc i) es) zero → IsAt R k es i
+  pub at_tied : (k : K) (es : List (K × V)) (i : ℕ) (d : K × V) → T (is_sorted R es) → i < length es → R k (get_or es i d).0 ≡ Equal → IsGap R k (drop (suc i) es) zero → IsKeyAt R k es i
   at_tied k [] i d s lt tied rest = absurd (omega (arith, lt))
   at_tied k (x ∷ es) zero d s lt tied rest = (tied, rest)
   at_tied k (x ∷ es) (suc i) d s lt tied rest =
@@ -136,10 +136,10 @@ module _ {K V : Type 0} {R : K → K → Ordering} (o : IsTotalOrder R) where
   gap_tied x k (e ∷ es) t h = (sym (o.congr x k e.0 t) ∙ less _ (left_of _ _ h), gap_tied x k es t (right_of _ _ h))
 
   -- the first key stands at the first place
-  pub first_at : (es : List (K × V)) (x : K × V) → T (is_sorted R es) → 0 < length es → x ≡ get_or es 0 x → IsAt R x.0 es zero
+  pub first_at : (es : List (K × V)) (x : K × V) → T (is_sorted R es) → 0 < length es → x ≡ get_or es 0 x → IsKeyAt R x.0 es zero
   first_at [] x s some e = absurd (omega arith)
   first_at (y ∷ es) x s some e =
-      subst (λ (z : K × V). IsAt R z.0 (y ∷ es) zero) (sym e) (tied_itself o y.0, gap_tied y.0 y.0 es (tied_itself o y.0) (left_of _ _ s))
+      subst (λ (z : K × V). IsKeyAt R z.0 (y ∷ es) zero) (sym e) (tied_itself o y.0, gap_tied y.0 y.0 es (tied_itself o y.0) (left_of _ _ s))
 
   rises : (k : K) (es : List (K × V)) → T (is_sorted R es) → IsNonDecreasingBy (λ y. ordering_index (R y.0 k)) es
   rises k [] s i j d le lt = absurd (omega arith)
@@ -148,7 +148,7 @@ module _ {K V : Type 0} {R : K → K → Ordering} (o : IsTotalOrder R) where
   rises k (e ∷ es) s (suc i) zero d le lt = absurd (omega arith)
   rises k (e ∷ es) s (suc i) (suc j) d le lt = rises k es (right_of _ _ s) i j d (omega arith) (omega arith)
 
-  at_found : (k : K) (es : List (K × V)) (i : ℕ) → T (is_sorted R es) → i < length es → ((d : K × V) → R (get_or es i d).0 k ≡ Equal) → IsAt R k es i
+  at_found : (k : K) (es : List (K × V)) (i : ℕ) → T (is_sorted R es) → i < length es → ((d : K × V) → R (get_or es i d).0 k ≡ Equal) → IsKeyAt R k es i
   at_found k [] i s lt tied = absurd (omega arith)
   at_found k (e ∷ es) zero s lt tied = (tied_back o e.0 k (tied e), gap_tied e.0 k es (tied e) (left_of _ _ s))
   at_found k (e ∷ es) (suc i) s lt tied = (

@@ -1,5 +1,5 @@
 -- What an edit of a row of chunks does to its room.
-use Rattle.sorted_map.proofs.Common.{AllSome, List, [], ap, arith, drop, flat, get_or, insert, length, length-append, length-drop, length-insert, length-remove, length-set, length-take-le, load, over, refl, remove, room_by, set, start, subst, suc, sym, take, take-append-drop, zero, ℕ, ◌++◌, ◌+◌, ◌-◌, ◌<◌, ◌∙◌, ◌∷◌, ◌≡◌, ◌≤◌}
+use Rattle.sorted_map.proofs.Common.{AllSome, List, [], ap, arith, drop, flat, get_or, insert, length, length-append, length-drop, length-insert, length-remove, length-set, length-take-le, load, over, refl, remove, room_by, set, items_before, subst, suc, sym, take, take-append-drop, zero, ℕ, ◌++◌, ◌+◌, ◌-◌, ◌<◌, ◌∙◌, ◌∷◌, ◌≡◌, ◌≤◌}
 use Rattle.sorted_map.proofs.FlatLaws.{flat_split, start_split, start_split_next, get_split, get_split_next, some_set, some_insert}
 
 -- what is lost by so much more load, and by so many spare chunks less
@@ -145,8 +145,8 @@ pub record SplitFacts {A : Type 0} (cs new : List (List A)) (i : ℕ) : Type 0 w
   pub back : length (get_or new (i + 1) []) ≡ 32
   pub some : AllSome new
   pub same : flat new ≡ flat cs
-  pub start_front : start new i ≡ start cs i
-  pub start_back : start new (i + 1) ≡ start cs i + 32
+  pub start_front : items_before new i ≡ items_before cs i
+  pub start_back : items_before new (i + 1) ≡ items_before cs i + 32
   pub loads : load new + 32 ≡ load cs
 
 pub split_facts : {A : Type 0} (cs new : List (List A)) (i : ℕ) → AllSome cs → i < length cs → length (get_or cs i []) ≡ 64 → new ≡ insert (set cs i (take 32 (get_or cs i []))) (i + 1) (drop 32 (get_or cs i [])) → SplitFacts cs new i
@@ -166,7 +166,7 @@ split_facts {A} cs new i some lt full is =
       back = ap (λ r. length (get_or r (i + 1) [])) is ∙ ap length (get_split_next cs i a b lt) ∙ lb;
       some = subst AllSome (sym is) (some_insert (set cs i a) (i + 1) b (some_set cs i a some (omega (arith, la))) (omega (arith, lb)));
       same = ap flat is ∙ flat_split cs i a b lt (take-append-drop 32 c);
-      start_front = ap (λ r. start r i) is ∙ start_split cs i a b lt;
-      start_back = ap (λ r. start r (i + 1)) is ∙ start_split_next cs i a b lt ∙ ap (λ n. start cs i + n) la;
+      start_front = ap (λ r. items_before r i) is ∙ start_split cs i a b lt;
+      start_back = ap (λ r. items_before r (i + 1)) is ∙ start_split_next cs i a b lt ∙ ap (λ n. items_before cs i + n) la;
       loads = ap (λ r. load r + 32) is ∙ split_load cs i lt full;
     }

@@ -23,10 +23,10 @@ module _ {A : Type 0} where
   flat (c ∷ cs) = c ++ flat cs
 
   -- how many items stand before chunk i
-  abbrev pub start : List (List A) → ℕ → ℕ
-  start [] i = 0
-  start (c ∷ cs) zero = 0
-  start (c ∷ cs) (suc i) = length c + start cs i
+  abbrev pub items_before : List (List A) → ℕ → ℕ
+  items_before [] i = 0
+  items_before (c ∷ cs) zero = 0
+  items_before (c ∷ cs) (suc i) = length c + items_before cs i
 
   -- no chunk is empty
   abbrev pub AllSome : List (List A) → Type 0
@@ -48,7 +48,7 @@ module _ {A : Type 0} where
   over cs = total (λ c. length c - 32) cs
 
   -- len and extra are how many items the chunks have, and how many beyond their halves
-  pub record IsCounted (cs : List (List A)) (len extra : ℕ) : Type 0 where
+  pub record AreLengths (cs : List (List A)) (len extra : ℕ) : Type 0 where
     pub whole : len ≡ total length cs
     pub beyond : extra ≡ over cs
     pub few : AllFew cs

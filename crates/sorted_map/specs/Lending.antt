@@ -4,7 +4,7 @@ use Rattle.std.specs.Borrow.{Fml, RattleType, MutBor, LendsIf}
 use Rattle.std.specs.FinMap as map
 use Rattle.std.specs.declared.cmp.Ordering.{Ordering}
 use Rattle.sorted_map.specs.contracts.map.SortedMap.{the_row}
-use Rattle.sorted_map.specs.SortedMap.{Shown, contents, shown}
+use Rattle.sorted_map.specs.SortedMap.{Shown, contents, shown_with_room}
 
 module _ (K V : RattleType) (cmp : K.Denot → K.Denot → Ordering) (eq : K.Denot → K.Denot → Bool) (partial_cmp : K.Denot
     → K.Denot → Option Ordering) where
@@ -14,4 +14,4 @@ module _ (K V : RattleType) (cmp : K.Denot → K.Denot → Ordering) (eq : K.Den
       LendsIf (the_row K V (record { cmp = cmp }) (record { eq = eq }) (record {
         partial_cmp =
             partial_cmp;
-      })) V m r (λ w. shown (map.insert (contents cmp m.now) k w) m.now.room) m.now
+      })) V m r (λ w. shown_with_room (map.insert (contents cmp m.now) k w) m.now.room) m.now

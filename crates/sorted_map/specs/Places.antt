@@ -13,14 +13,14 @@ module _ {K V : Type 0} (R : K → K → Ordering) (k : K) where
   IsGap (e ∷ es) (suc i) = (R k e.0 ≡ Greater) × IsGap es i
 
   -- the key stands at place i: the keys before it are less, and those after it are greater
-  abbrev pub IsAt : List (K × V) → ℕ → Type 0
-  IsAt [] i = ⊥
-  IsAt (e ∷ es) zero = (R k e.0 ≡ Equal) × IsGap es zero
-  IsAt (e ∷ es) (suc i) = (R k e.0 ≡ Greater) × IsAt es i
+  abbrev pub IsKeyAt : List (K × V) → ℕ → Type 0
+  IsKeyAt [] i = ⊥
+  IsKeyAt (e ∷ es) zero = (R k e.0 ≡ Equal) × IsGap es zero
+  IsKeyAt (e ∷ es) (suc i) = (R k e.0 ≡ Greater) × IsKeyAt es i
 
   -- the place of the key, or its gap
   abbrev pub IsPlace : List (K × V) → Result ℕ ℕ → Type 0
-  IsPlace es r = MatchResult r (IsAt es) (IsGap es)
+  IsPlace es r = MatchResult r (IsKeyAt es) (IsGap es)
 
 module _ {K V : Type 0} (R : K → K → Ordering) where
   -- pairs put into others in order, one after the other

@@ -46,8 +46,8 @@ module _ {K V : Type 0} where
   pairs_eq E F p q = E p.0 q.0 && F p.1 q.1
 
 -- the pairs of a finite map, with such room
-abbrev pub shown : {K V : Type 0} {R : K → K → Ordering} → map.FinMap R V → ℕ → Shown K V
-shown m room = record { entries = map.entries m; room = room }
+abbrev pub shown_with_room : {K V : Type 0} {R : K → K → Ordering} → map.FinMap R V → ℕ → Shown K V
+shown_with_room m room = record { entries = map.entries m; room = room }
 
 -- whether a key is no less than k
 abbrev pub is_from : {K : Type 0} → (K → K → Ordering) → K → K → Bool

@@ -1,5 +1,5 @@
 -- The way up from a leaf, a leaf and its directory's home at a time.
-use Rattle.subtree_map.proofs.Common.{Covers, FindsAbove, FindsRow, Fragment, HoldsDentry, Home, Homes, Ino, IsLeafAt, IsLive, IsLocated, IsNearestRow, IsPick, IsSubtrees, IsTable, Leaf, NearestRoot, None, Option, Rank, Roots, Some, ap, false, hash_of, is_known, leaves_of, option_map, refl, same_Some, subst, sym, true, ℕ, ◌↔◌, ◌∙◌, ◌≡◌}
+use Rattle.subtree_map.proofs.Common.{Covers, FindsAbove, FindsRow, Fragment, HoldsDentry, Home, Homes, Ino, IsLeafAt, IsLive, LocatesLeaf, IsNearestRow, IsPick, IsSubtrees, IsTable, Leaf, NearestRoot, None, Option, Rank, Roots, Some, ap, false, hash_of, is_known, leaves_of, option_map, refl, same_Some, subst, sym, true, ℕ, ◌↔◌, ◌∙◌, ◌≡◌}
 use Rattle.std.specs.FinMap as map
 use Rattle.subtree_map.proofs.Nearest.{one_holder, one_root, parent_known, some_root}
 
@@ -18,7 +18,7 @@ module _ (homes : Homes) (covers : Covers) where
     finds_some table valid leaf stands None none is = let near = some_root roots homes covers table valid leaf stands in none near.0 near.1
     finds_some table valid leaf stands (Some row) found is = cc
 
-    pub located : (dir : Ino) (hash : ℕ) (leaf : Fragment) (above : Option Home) (row : Leaf × Rank) → IsLeafAt homes covers dir.0 hash leaf above → IsNearestRow roots homes covers (dir, leaf) row → IsLocated roots homes covers dir hash leaf row.1
+    pub located : (dir : Ino) (hash : ℕ) (leaf : Fragment) (above : Option Home) (row : Leaf × Rank) → IsLeafAt homes covers dir.0 hash leaf above → IsNearestRow roots homes covers (dir, leaf) row → LocatesLeaf roots homes covers dir hash leaf row.1
     located dir hash leaf above row at near = record { known = at.known; pick = at.pick; has = record { root = row.0; nearest = near.nearest; ranked = near.ranked } }
 
     module _ (home : Home) where

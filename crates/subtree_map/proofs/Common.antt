@@ -6,7 +6,7 @@ pub use Rattle.fragtree.proofs.TreeLaws.{child_after_split, merged_after_merge, 
 pub use Rattle.fragtree.specs.FragTree.{CanMerge, FitsSplit, HasLeaf, IsChild, IsMerge, IsPick, IsSplit, IsTree, Tiles, leaves_inside, lies_inside}
 pub use Rattle.inode_table.proofs.Chains.{climbed, known_reaches, nearer, parent_reaches}
 pub use Rattle.inode_table.proofs.Tables.{known_by, still_known, tree_of_row}
-pub use Rattle.inode_table.specs.Dirs.{Covers, Homes, IsAbove, IsChildless, IsLeafAt, IsLive, IsTable, MayCome, MayMove, Reaches, further, is_known, leaves_of, or_whole, parent}
+pub use Rattle.inode_table.specs.Dirs.{Covers, Homes, IsAncestor, IsChildless, IsLeafAt, IsLive, IsTable, MayCome, MayMove, Reaches, further, is_known, leaves_of, or_whole, parent}
 pub use Rattle.inode_table.specs.declared.dirs.Home.{Home}
 pub use Rattle.mds_types.proofs.Fragments.{span-split}
 pub use Rattle.mds_types.proofs.LeafLaws.{get_beside, get_left, get_put, get_removed, leaf-exact, leaf-total, same_or_apart, tied_apart, tied_same}
@@ -39,11 +39,11 @@ pub use Rattle.std.specs.Vec.{with_items}
 pub use Rattle.std.specs.declared.alloc.Global.{Global}
 pub use Rattle.std.specs.declared.cmp.Ordering.{Ordering}
 pub use Rattle.std.specs.declared.cmp.Ordering.TheVariants.{Equal, Greater, Less}
-pub use Rattle.subtree_map.specs.Authority.{BoundsOneRegion, HasAuthority, HasOneRoot, HoldsDentry, IsBound, IsInOneRegion, IsLocated, IsSubtrees, NearestRoot, Roots, inherited, itself}
-pub use Rattle.subtree_map.specs.Changes.{AreFilled, AreGone, BecomesMerged, BecomesSplit, DropsSoundly, HaveOneAuthority, IsCutOff, IsHanded, IsRootMerge, IsRootSplit, KeepAuthority, MergesSoundly, SplitsSoundly, StaysElsewhere, Subtrees, is_inside, leaf_of}
+pub use Rattle.subtree_map.specs.Authority.{BoundsOneRegion, HasAuthority, HasOneRoot, HoldsDentry, IsBound, IsInOneRegion, LocatesLeaf, IsSubtrees, NearestRoot, Roots, inherited, itself}
+pub use Rattle.subtree_map.specs.Changes.{AreFilled, AreGone, BecomesMerged, BecomesSplit, DropsSoundly, HaveOneAuthority, IsCutOff, IsHanded, IsRootMerge, IsRootSplit, KeepAuthority, MergesSoundly, SplitsSoundly, StaysElsewhere, Subtrees, is_inside, leaf_in_dir}
 pub use Rattle.subtree_map.specs.Climb.{FindsAbove, FindsRow, IsNearestRow, IsNextBelow}
-pub use Rattle.subtree_map.specs.Lists.{AreEach, AreLists, AreOnce, Corrects, HasDropped, HasGrown, HasHints, HasLearnt, HasSame, HaveNone, HaveRoom, Hears, IsClaimed, IsCorrected, IsPut, Rows, claim_of, claimed, corrected, demoted, entry_at, entry_of, found, heard, hinted, home_of, is_after, known_after, knows, learnt, leaves_in, makes, no_rows, promised, promised_after, row_by, rows_at, said, says_at, tabulate, told, with_some}
-pub use Rattle.subtree_map.specs.Moves.{IsInheritedAt, IsLostRank, IsSettled, MovesSoundly}
+pub use Rattle.subtree_map.specs.Lists.{AreEach, AreLists, AreOnce, Corrects, HasDropped, HasGrown, HasHints, HasLearnt, HasSame, HaveNone, HaveRoom, Hears, IsClaimed, IsCorrected, IsPut, ListRows, claim_of, claimed, corrected, demoted, entry_at, entry_or_nothing, first_told, heard, hinted, home_of, is_leaf_after, known_after, knows, learnt, leaves_of_lists, adds_row, no_rows, promised, promised_after, row_by, rows_at, said, says_at, ranks_of_leaves, told, with_rank_of}
+pub use Rattle.subtree_map.specs.Moves.{IsInheritedAt, IsLostRank, KeepsRanksOf, MovesSoundly}
 pub use Rattle.subtree_map.specs.Rows.{AreChildrenSet, AreTakenOut, IsFilled, IsFirst, IsFirstBy, IsFirstRow, IsRootIfSome, lesser_of, rows_from}
 pub use Rattle.subtree_map.specs.declared.entries.Entry.{Entry}
 pub use Rattle.subtree_map.specs.declared.entries.Known.{Known}

@@ -1,5 +1,5 @@
 -- A directory goes that is no one's parent: the leaves of the others keep their authority.
-use Rattle.subtree_map.proofs.Common.{AreGone, Covers, DropsSoundly, HasAuthority, HasLeaf, Home, Homes, Ino, IsChildless, IsLive, IsPick, IsSome, IsSubtrees, IsTable, KeepAuthority, Leaf, NearestRoot, Option, Roots, StaysElsewhere, ap, hash_of, inherited, inl, inr, is_some, itself, leaf_of, subst, sym, ℕ, ◌==◌, ◌||◌, ◌∙◌, ◌≡◌, ◌≢◌, ◌⊎◌}
+use Rattle.subtree_map.proofs.Common.{AreGone, Covers, DropsSoundly, HasAuthority, HasLeaf, Home, Homes, Ino, IsChildless, IsLive, IsPick, IsSome, IsSubtrees, IsTable, KeepAuthority, Leaf, NearestRoot, Option, Roots, StaysElsewhere, ap, hash_of, inherited, inl, inr, is_some, itself, leaf_in_dir, subst, sym, ℕ, ◌==◌, ◌||◌, ◌∙◌, ◌≡◌, ◌≢◌, ◌⊎◌}
 use Rattle.std.specs.FinMap as map
 use Rattle.sorted_map.proofs.NatKeys as nat
 use Rattle.subtree_map.proofs.Options.{not_none, value_of}
@@ -39,7 +39,7 @@ module _ (old new : Roots) (d : ℕ) (is : AreGone old new d) (homes : Homes) (c
   sound = (
     keeps,
     record {
-      top = λ f has. ap is_some (is.others (leaf_of 1 f) (λ same. below (sym same))) ∙ valid.top f (subst (λ ls. HasLeaf ls f) (leaves_left covers d 1 (λ same. below (sym same))) has);
+      top = λ f has. ap is_some (is.others (leaf_in_dir 1 f) (λ same. below (sym same))) ∙ valid.top f (subst (λ ls. HasLeaf ls f) (leaves_left covers d 1 (λ same. below (sym same))) has);
       live = still_live;
     },
   )

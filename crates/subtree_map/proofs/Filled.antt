@@ -1,5 +1,5 @@
 -- Leaves that get a rank where they have none.
-use Rattle.subtree_map.proofs.Common.{AreFilled, Bool, Contains, Contains-append_cases, Contains-append_left, Contains-append_right, Fragment, HasLeaf, IsFilled, IsFragment, IsPick, IsTree, Leaf, List, None, Option, Rank, Roots, Some, Tiles, [], ap, arith, false, get_beside, get_put, inl, inr, is_some, leaf_of, length, refl, same_or_apart, span, span_pos, subst, suc, sym, true, zero, ℕ, ◌++◌, ◌+◌, ◌<◌, ◌^◌, ◌∙◌, ◌∷◌, ◌≡◌, ◌≤◌}
+use Rattle.subtree_map.proofs.Common.{AreFilled, Bool, Contains, Contains-append_cases, Contains-append_left, Contains-append_right, Fragment, HasLeaf, IsFilled, IsFragment, IsPick, IsTree, Leaf, List, None, Option, Rank, Roots, Some, Tiles, [], ap, arith, false, get_beside, get_put, inl, inr, is_some, leaf_in_dir, length, refl, same_or_apart, span, span_pos, subst, suc, sym, true, zero, ℕ, ◌++◌, ◌+◌, ◌<◌, ◌^◌, ◌∙◌, ◌∷◌, ◌≡◌, ◌≤◌}
 use Rattle.std.proofs.lemmas.List.{append_assoc, length-append, append-nil}
 use Rattle.std.specs.FinMap as map
 use Rattle.subtree_map.proofs.Covers.{contains_start}
@@ -19,15 +19,15 @@ filled_one old new leaf rank none is = record {
 
 module _ (d : ℕ) (done : List Fragment) (f : Fragment) (rank : Rank) where
   -- one leaf more has the rank where it had none
-  pub filled_more : (old now new : Roots) → AreFilled old now d done rank → IsFilled now new (leaf_of d f) rank → AreFilled old new d (done ++ f ∷ []) rank
+  pub filled_more : (old now new : Roots) → AreFilled old now d done rank → IsFilled now new (leaf_in_dir d f) rank → AreFilled old new d (done ++ f ∷ []) rank
   filled_more old now new so_far is = record {
     absent = λ g has none. elim (Contains-append_cases done (f ∷ []) g has) [
-      | inl before ↦ beside (leaf_of d g) rank (so_far.absent g before none)
-      | inr last ↦ here g (only f g last) none (map.get now (leaf_of d g)) refl
+      | inl before ↦ beside (leaf_in_dir d g) rank (so_far.absent g before none)
+      | inr last ↦ here g (only f g last) none (map.get now (leaf_in_dir d g)) refl
     ];
     there = λ leaf some. let has = value_of _ some in beside leaf has.0 (so_far.there leaf some ∙ has.1) ∙ sym has.1;
     elsewhere = λ leaf apart. is.others leaf (λ same. apart (ap (λ (k : Leaf). k.0.0) same)) ∙ so_far.elsewhere leaf apart;
-    made = λ leaf none some. elim (same_or_apart leaf (leaf_of d f)) [
+    made = λ leaf none some. elim (same_or_apart leaf (leaf_in_dir d f)) [
       | inl same ↦ (ap (λ (k : Leaf). k.0.0) same, Contains-append_right done (f ∷ []) leaf.1 (zero, omega arith, ap (λ (k : Leaf). k.1) (sym same)))
       | inr apart ↦
           let before = so_far.made leaf none (ap is_some (sym (is.others leaf apart)) ∙ some) in
@@ -41,19 +41,19 @@ module _ (d : ℕ) (done : List Fragment) (f : Fragment) (rank : Rank) where
 
       -- a leaf that has a rank keeps it
       beside : (leaf : Leaf) (had : Rank) → map.get now leaf ≡ Some had → map.get new leaf ≡ Some had
-      beside leaf had has = elim (same_or_apart leaf (leaf_of d f)) [
+      beside leaf had has = elim (same_or_apart leaf (leaf_in_dir d f)) [
         | inl same ↦
-            let own : map.get now (leaf_of d f) ≡ Some had = ap (map.get now) (sym same) ∙ has in
+            let own : map.get now (leaf_in_dir d f) ≡ Some had = ap (map.get now) (sym same) ∙ has in
             ap (map.get new) same ∙ is.there (ap is_some own) ∙ own
         | inr apart ↦ is.others leaf apart ∙ has
       ]
 
-      here : (g : Fragment) → g ≡ f → map.get old (leaf_of d g) ≡ None → (o : Option Rank) → map.get now (leaf_of d g) ≡ o → map.get new (leaf_of d g) ≡ Some rank
-      here g same none None gone = ap (λ h. map.get new (leaf_of d h)) same ∙ is.absent (ap (λ h. map.get now (leaf_of d h)) (sym same) ∙ gone)
-      here g same none (Some had) has = again (so_far.made (leaf_of d g) none (ap is_some has))
+      here : (g : Fragment) → g ≡ f → map.get old (leaf_in_dir d g) ≡ None → (o : Option Rank) → map.get now (leaf_in_dir d g) ≡ o → map.get new (leaf_in_dir d g) ≡ Some rank
+      here g same none None gone = ap (λ h. map.get new (leaf_in_dir d h)) same ∙ is.absent (ap (λ h. map.get now (leaf_in_dir d h)) (sym same) ∙ gone)
+      here g same none (Some had) has = again (so_far.made (leaf_in_dir d g) none (ap is_some has))
         where
-          again : (d ≡ d) × HasLeaf done g → map.get new (leaf_of d g) ≡ Some rank
-          again before = beside (leaf_of d g) rank (so_far.absent g before.1 none)
+          again : (d ≡ d) × HasLeaf done g → map.get new (leaf_in_dir d g) ≡ Some rank
+          again before = beside (leaf_in_dir d g) rank (so_far.absent g before.1 none)
 
 pub filled_none : (old : Roots) (d : ℕ) (rank : Rank) → AreFilled old old d [] rank
 filled_none old d rank = record {
@@ -117,7 +117,7 @@ module _ (leaves : List Fragment) (hash : ℕ) (old now : Roots) (d : ℕ) (rank
       let start : leaf.value ≡ hash = ap (λ (f : Fragment). f.value) (sym (picked leaf pick low)) ∙ n.4 in
       omega (arith, ends, start, span_pos leaf.bits)
 
-  pub walk_goes : (new : Roots) (leaf : Fragment) (end left : ℕ) → hash < 2 ^ 24 → IsPick leaves hash leaf → IsFilled now new (leaf_of d leaf) rank → end ≡ leaf.value + span leaf.bits → room ≤ left + 1 → Walk leaves end old new d rank before left
+  pub walk_goes : (new : Roots) (leaf : Fragment) (end left : ℕ) → hash < 2 ^ 24 → IsPick leaves hash leaf → IsFilled now new (leaf_in_dir d leaf) rank → end ≡ leaf.value + span leaf.bits → room ≤ left + 1 → Walk leaves end old new d rank before left
   walk_goes new leaf end left low pick is ends less =
       let n = next low in
       let own : n.0 ≡ leaf = picked leaf pick low in

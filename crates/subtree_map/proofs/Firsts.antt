@@ -1,5 +1,5 @@
 -- The first row from a leaf on, and what the order of leaves says of the rows behind it.
-use Rattle.subtree_map.proofs.Common.{Bool, Equal, Fragment, Greater, IsFirst, IsFirstRow, IsFragment, IsSome, Leaf, Less, List, MatchOrdering, None, Option, Ordering, Rank, Roots, Some, T, [], ap, arith, below_all, cond, ends_before, entries_sorted, eq_by_cmp, false, find, find-where_key, frag_cmp, frag_le, get-entries, inl, inr, is_eq, is_inside, is_le, is_lt, is_some, is_sorted, is_sorted-where_key, leaf-exact, leaf-total, leaf_cmp, leaf_of, left_of, lies_inside-true, nat_cmp, ordering_then, range_from_inside, ranks, refl, right_of, span, subst, sym, tie, tied_itself, true, where_key, ℕ, ◌+◌, ◌<◌, ◌∙◌, ◌∷◌, ◌≡◌, ◌≤◌, ◌⊎◌}
+use Rattle.subtree_map.proofs.Common.{Bool, Equal, Fragment, Greater, IsFirst, IsFirstRow, IsFragment, IsSome, Leaf, Less, List, MatchOrdering, None, Option, Ordering, Rank, Roots, Some, T, [], ap, arith, below_all, cond, ends_before, entries_sorted, eq_by_cmp, false, find, find-where_key, frag_cmp, frag_le, get-entries, inl, inr, is_eq, is_inside, is_le, is_lt, is_some, is_sorted, is_sorted-where_key, leaf-exact, leaf-total, leaf_cmp, leaf_in_dir, left_of, lies_inside-true, nat_cmp, ordering_then, range_from_inside, ranks, refl, right_of, span, subst, sym, tie, tied_itself, true, where_key, ℕ, ◌+◌, ◌<◌, ◌∙◌, ◌∷◌, ◌≡◌, ◌≤◌, ◌⊎◌}
 use Rattle.std.specs.FinMap as map
 use Rattle.subtree_map.proofs.Merged.{inside_at, inside_of, is_within}
 use Rattle.sorted_map.proofs.PlaceLaws.{less as less_of}
@@ -109,15 +109,15 @@ module _ (rows : Roots) (d : ℕ) (f : Fragment) (hf : IsFragment f) (leaf : Lea
   at = inside_at d f leaf inside
 
   -- what lies inside a fragment is behind it
-  behind_it : is_behind (leaf_of d f) leaf ≡ true
-  behind_it = lt_leaf (leaf_of d f) leaf (sym at) (lt_frag f leaf.1 range.1 range.0)
+  behind_it : is_behind (leaf_in_dir d f) leaf ≡ true
+  behind_it = lt_leaf (leaf_in_dir d f) leaf (sym at) (lt_frag f leaf.1 range.1 range.0)
 
   -- where no row is behind the fragment, none is inside
-  pub none_behind : IsFirst rows (is_behind (leaf_of d f)) None → map.get rows leaf ≡ None
+  pub none_behind : IsFirst rows (is_behind (leaf_in_dir d f)) None → map.get rows leaf ≡ None
   none_behind none = none leaf behind_it
 
   -- where the first row behind it isn't inside, none is
-  module _ (first : Leaf) (hfirst : IsFragment first.1) (is : IsFirst rows (is_behind (leaf_of d f)) (Some first)) (outside : is_inside d f first ≡ false) where
+  module _ (first : Leaf) (hfirst : IsFragment first.1) (is : IsFirst rows (is_behind (leaf_in_dir d f)) (Some first)) (outside : is_inside d f first ≡ false) where
     not_inside : first.0.0 ≡ d → f.bits < first.1.bits → f.value ≤ first.1.value → first.1.value < f.value + span f.bits → ⊥
     not_inside here more low high = let clash : true ≡ false = sym (is_within d f first here (lies_inside-true f first.1 hf more low high)) ∙ outside in cc
 
@@ -153,5 +153,5 @@ module _ (rows : Roots) (d : ℕ) (f : Fragment) (hf : IsFragment f) (leaf : Lea
         go None none = refl
         go (Some rank) some = elim (is.2 leaf behind_it (ap is_some some)) [
           | inl same ↦ absurd (let clash : true ≡ false = sym inside ∙ ap (is_inside d f) same ∙ outside in cc)
-          | inr less ↦ absurd (between (leaf_lt (leaf_of d f) first is.0) (leaf_le first leaf (less_is_le _ less)))
+          | inr less ↦ absurd (between (leaf_lt (leaf_in_dir d f) first is.0) (leaf_le first leaf (less_is_le _ less)))
         ]

@@ -1,5 +1,5 @@
 -- What one list says of a leaf once it has heard news of it.
-use Rattle.subtree_map.proofs.Common.{Bool, Claim, Claimed, Ended, Entry, Handed, Hint, Known, News, None, Nothing, Option, Promised, Rank, Some, Withdrawn, ap, claim_of, claimed, cond, demoted, entry_of, false, heard, known_after, makes, promised, promised_after, refl, row_by, said, sym, true, ◌∙◌, ◌≡◌}
+use Rattle.subtree_map.proofs.Common.{Bool, Claim, Claimed, Ended, Entry, Handed, Hint, Known, News, None, Nothing, Option, Promised, Rank, Some, Withdrawn, ap, claim_of, claimed, cond, demoted, entry_or_nothing, false, heard, known_after, adds_row, promised, promised_after, refl, row_by, said, sym, true, ◌∙◌, ◌≡◌}
 
 claims_row : (e : Entry) (known : Known) (p : Option Rank) → e.known ≡ known → said claimed (row_by e known p) ≡ claim_of e.known
 claims_row e Nothing None is = ap claim_of (sym is)
@@ -14,29 +14,29 @@ promises_row e (Claim rank) p is = refl
 promises_row e (Hint rank) p is = refl
 
 -- a list without a row says nothing
-pub claims_entry : (o : Option Entry) → claim_of (entry_of o).known ≡ said claimed o
+pub claims_entry : (o : Option Entry) → claim_of (entry_or_nothing o).known ≡ said claimed o
 claims_entry None = refl
 claims_entry (Some e) = refl
 
-pub promises_entry : (o : Option Entry) → (entry_of o).promised ≡ said promised o
+pub promises_entry : (o : Option Entry) → (entry_or_nothing o).promised ≡ said promised o
 promises_entry None = refl
 promises_entry (Some e) = refl
 
 after : Option Entry → Bool → News → Entry
-after o own news = record { known = known_after (entry_of o).known own news; promised = promised_after (entry_of o).promised own news }
+after o own news = record { known = known_after (entry_or_nothing o).known own news; promised = promised_after (entry_or_nothing o).promised own news }
 
-claims_heard : (o : Option Entry) (own : Bool) (news : News) → said claimed (heard o own news) ≡ claim_of (known_after (entry_of o).known own news)
+claims_heard : (o : Option Entry) (own : Bool) (news : News) → said claimed (heard o own news) ≡ claim_of (known_after (entry_or_nothing o).known own news)
 unfolding after
-claims_heard o own news = claims_row (after o own news) (known_after (entry_of o).known own news) (promised_after (entry_of o).promised own news) refl
+claims_heard o own news = claims_row (after o own news) (known_after (entry_or_nothing o).known own news) (promised_after (entry_or_nothing o).promised own news) refl
 
-promises_heard : (o : Option Entry) (own : Bool) (news : News) → said promised (heard o own news) ≡ promised_after (entry_of o).promised own news
+promises_heard : (o : Option Entry) (own : Bool) (news : News) → said promised (heard o own news) ≡ promised_after (entry_or_nothing o).promised own news
 unfolding after
-promises_heard o own news = promises_row (after o own news) (known_after (entry_of o).known own news) (promised_after (entry_of o).promised own news) refl
+promises_heard o own news = promises_row (after o own news) (known_after (entry_or_nothing o).known own news) (promised_after (entry_or_nothing o).promised own news) refl
 
 -- ---- claims
 
 pub claims_claimed : (o : Option Entry) (own : Bool) (rank : Rank) → said claimed (heard o own (Claimed rank)) ≡ cond own (Some rank) None
-claims_claimed o own rank = claims_heard o own (Claimed rank) ∙ go own (entry_of o).known
+claims_claimed o own rank = claims_heard o own (Claimed rank) ∙ go own (entry_or_nothing o).known
   where
     go : (b : Bool) (known : Known) → claim_of (cond b (Claim rank) (demoted known rank)) ≡ cond b (Some rank) None
     go true known = refl
@@ -75,16 +75,16 @@ promises_withdrawn o own = promises_heard o own Withdrawn
 
 -- ---- where a row comes in
 
-pub ended_makes : (o : Option Entry) (own : Bool) → makes o (heard o own Ended) ≡ false
+pub ended_makes : (o : Option Entry) (own : Bool) → adds_row o (heard o own Ended) ≡ false
 ended_makes None own = refl
 ended_makes (Some e) own = refl
 
-pub withdrawn_makes : (o : Option Entry) (own : Bool) → makes o (heard o own Withdrawn) ≡ false
+pub withdrawn_makes : (o : Option Entry) (own : Bool) → adds_row o (heard o own Withdrawn) ≡ false
 withdrawn_makes None own = refl
 withdrawn_makes (Some e) own = refl
 
 -- only where the list had none
-pub handed_makes : (o : Option Entry) (own : Bool) (rank : Rank) → makes o (heard o own (Handed rank)) ≡ true → (own ≡ true) × (o ≡ None)
+pub handed_makes : (o : Option Entry) (own : Bool) (rank : Rank) → adds_row o (heard o own (Handed rank)) ≡ true → (own ≡ true) × (o ≡ None)
 handed_makes None true rank made = (refl, refl)
 handed_makes None false rank made = let clash : false ≡ true = made in absurd cc
 handed_makes (Some e) own rank made = let clash : false ≡ true = made in absurd cc

@@ -1,5 +1,5 @@
 -- The first claim of rows in order, of a list, and of several lists.
-use Rattle.subtree_map.proofs.Common.{Bool, Entry, Equal, Greater, IsFirstBy, IsSome, Leaf, Less, List, None, Option, Ordering, Rank, Rows, Some, T, [], ap, arith, claimed, cond, contents, entries_sorted, entry_at, eq_by_cmp, false, find, find-where_key, found, get-entries, inl, inr, is_eq, is_lt, is_some, is_sorted, is_sorted-where_key, leaf-exact, leaf-total, leaf_cmp, left_of, length, lesser_of, option_or, ordering_reverse, refl, right_of, rows_at, said, subst, suc, sym, take, tie, tied_itself, true, where_key, zero, ℕ, ◌+◌, ◌<◌, ◌∙◌, ◌∷◌, ◌≡◌, ◌⊎◌}
+use Rattle.subtree_map.proofs.Common.{Bool, Entry, Equal, Greater, IsFirstBy, IsSome, Leaf, Less, List, None, Option, Ordering, Rank, ListRows, Some, T, [], ap, arith, claimed, cond, contents, entries_sorted, entry_at, eq_by_cmp, false, find, find-where_key, first_told, get-entries, inl, inr, is_eq, is_lt, is_some, is_sorted, is_sorted-where_key, leaf-exact, leaf-total, leaf_cmp, left_of, length, lesser_of, option_or, ordering_reverse, refl, right_of, rows_at, said, subst, suc, sym, take, tie, tied_itself, true, where_key, zero, ℕ, ◌+◌, ◌<◌, ◌∙◌, ◌∷◌, ◌≡◌, ◌⊎◌}
 use Rattle.std.specs.FinMap as map
 use Rattle.subtree_map.proofs.Firsts.{behind}
 
@@ -63,7 +63,7 @@ pub all_pass : {X : Type 0} (es : List (Leaf × X)) → es ≡ where_key leaf_cm
 all_pass [] = refl
 all_pass (e ∷ es) = ap (λ t. e ∷ t) (all_pass es)
 
-module _ (rows : Rows) (passes : Leaf → Bool) (left : List (Leaf × Entry)) (is : left ≡ where_key leaf_cmp passes (map.entries (contents leaf_cmp rows))) where
+module _ (rows : ListRows) (passes : Leaf → Bool) (left : List (Leaf × Entry)) (is : left ≡ where_key leaf_cmp passes (map.entries (contents leaf_cmp rows))) where
   pub left_sorted : T (is_sorted leaf_cmp left)
   left_sorted = subst (λ es. T (is_sorted leaf_cmp es)) (sym is) (is_sorted-where_key leaf_cmp passes (map.entries (contents leaf_cmp rows)) (entries_sorted (contents leaf_cmp rows)))
 
@@ -145,7 +145,7 @@ module _ (f g : Leaf → Option Rank) (passes : Leaf → Bool) where
 
 -- ---- one list more
 
-found_next : (says : Entry → Option Rank) (lists : List Rows) (i : ℕ) (leaf : Leaf) → i < length lists → found says (take (suc i) lists) leaf ≡ option_or (found says (take i lists) leaf) (said says (entry_at (rows_at lists i) leaf))
+found_next : (says : Entry → Option Rank) (lists : List ListRows) (i : ℕ) (leaf : Leaf) → i < length lists → first_told says (take (suc i) lists) leaf ≡ option_or (first_told says (take i lists) leaf) (said says (entry_at (rows_at lists i) leaf))
 found_next says [] i leaf low = absurd (omega (arith, low))
 found_next says (rows ∷ more) zero leaf low = none_right (said says (entry_at rows leaf))
   where
@@ -153,11 +153,11 @@ found_next says (rows ∷ more) zero leaf low = none_right (said says (entry_at 
     none_right None = refl
     none_right (Some r) = refl
 found_next says (rows ∷ more) (suc i) leaf low =
-    ap (option_or (said says (entry_at rows leaf))) (found_next says more i leaf (omega (arith, low))) ∙ shift (said says (entry_at rows leaf)) (found says (take i more) leaf) (said says (entry_at (rows_at more i) leaf))
+    ap (option_or (said says (entry_at rows leaf))) (found_next says more i leaf (omega (arith, low))) ∙ shift (said says (entry_at rows leaf)) (first_told says (take i more) leaf) (said says (entry_at (rows_at more i) leaf))
   where
     shift : (o p q : Option Rank) → option_or o (option_or p q) ≡ option_or (option_or o p) q
     shift None p q = refl
     shift (Some r) p q = refl
 
-pub found_more : (says : Entry → Option Rank) (lists : List Rows) (i : ℕ) (leaf : Leaf) → i < length lists → found says (take (i + 1) lists) leaf ≡ option_or (found says (take i lists) leaf) (said says (entry_at (rows_at lists i) leaf))
-found_more says lists i leaf low = let one : i + 1 ≡ suc i = omega arith in ap (λ n. found says (take n lists) leaf) one ∙ found_next says lists i leaf low
+pub found_more : (says : Entry → Option Rank) (lists : List ListRows) (i : ℕ) (leaf : Leaf) → i < length lists → first_told says (take (i + 1) lists) leaf ≡ option_or (first_told says (take i lists) leaf) (said says (entry_at (rows_at lists i) leaf))
+found_more says lists i leaf low = let one : i + 1 ≡ suc i = omega arith in ap (λ n. first_told says (take n lists) leaf) one ∙ found_next says lists i leaf low

@@ -1,5 +1,5 @@
 -- Leaves of one authority are merged: all leaves keep their authority, and the merged leaf has theirs.
-use Rattle.subtree_map.proofs.Common.{BecomesMerged, Bool, CanMerge, Covers, Fragment, HasAuthority, HasLeaf, HaveOneAuthority, HoldsDentry, Home, Homes, Ino, IsLive, IsMerge, IsPick, IsRootMerge, IsSome, IsSubtrees, IsTable, IsTree, KeepAuthority, Leaf, List, MergesSoundly, None, Rank, Roots, Some, and_from, and_left, and_parts, and_right, ap, eqb-true, false, hash_of, inl, inr, is_inside, is_known, is_some, itself, leaf_of, leaves_of, lies_inside, merged_after_merge, pick_after_merge, refl, same_or_apart, subst, sym, tree_of_row, true, ℕ, ◌&&◌, ◌==◌, ◌∙◌, ◌≡◌, ◌≢◌, ◌⊎◌}
+use Rattle.subtree_map.proofs.Common.{BecomesMerged, Bool, CanMerge, Covers, Fragment, HasAuthority, HasLeaf, HaveOneAuthority, HoldsDentry, Home, Homes, Ino, IsLive, IsMerge, IsPick, IsRootMerge, IsSome, IsSubtrees, IsTable, IsTree, KeepAuthority, Leaf, List, MergesSoundly, None, Rank, Roots, Some, and_from, and_left, and_parts, and_right, ap, eqb-true, false, hash_of, inl, inr, is_inside, is_known, is_some, itself, leaf_in_dir, leaves_of, lies_inside, merged_after_merge, pick_after_merge, refl, same_or_apart, subst, sym, tree_of_row, true, ℕ, ◌&&◌, ◌==◌, ◌∙◌, ◌≡◌, ◌≢◌, ◌⊎◌}
 use Rattle.std.specs.FinMap as map
 use Rattle.sorted_map.proofs.NatKeys as nat
 use Rattle.subtree_map.proofs.Options.{not_none, value_of}
@@ -32,14 +32,14 @@ module _ (old new : Roots) (d : ℕ) (f : Fragment) (is : IsRootMerge old new d 
   was = tree_of_row homes covers table d
 
   -- a leaf that stood isn't the merged one
-  not_merged : (leaf : Leaf) → IsLive homes covers leaf → leaf ≢ leaf_of d f
+  not_merged : (leaf : Leaf) → IsLive homes covers leaf → leaf ≢ leaf_in_dir d f
   not_merged leaf stood same = merged_is_new (leaves_of covers d) f was can (subst (λ (k : Leaf). HasLeaf (leaves_of covers k.0.0) k.1) same stood.stands)
 
   unchanged : (leaf : Leaf) → IsLive homes covers leaf → is_inside d f leaf ≡ false → map.get new leaf ≡ map.get old leaf
   unchanged leaf stood outside = is.others leaf outside (not_merged leaf stood)
 
   -- the rank of the merged leaf is the authority of those that it came from
-  rank_is : (leaf : Leaf) (rank now : Rank) → IsLive homes covers leaf → is_inside d f leaf ≡ true → HasAuthority old homes covers leaf rank → map.get new (leaf_of d f) ≡ Some now → now ≡ rank
+  rank_is : (leaf : Leaf) (rank now : Rank) → IsLive homes covers leaf → is_inside d f leaf ≡ true → HasAuthority old homes covers leaf rank → map.get new (leaf_in_dir d f) ≡ Some now → now ≡ rank
   rank_is leaf rank now stood inside has gets =
       let from = is.rank now gets in
       let live = valid.live from.0 (ap is_some from.2) in
@@ -76,7 +76,7 @@ module _ (old new : Roots) (d : ℕ) (f : Fragment) (is : IsRootMerge old new d 
       go : (b : Bool) → is_inside d f holder ≡ b → (home.parent.0 ≡ d) ⊎ (home.parent.0 ≢ d) → (after : Leaf) × BecomesMerged d f holder after × HoldsDentry later home after
       go true inside _ =
           let at : home.parent.0 ≡ d = ap (λ (p : Ino). p.0) (sym holds.parent) ∙ inside_at d f holder inside in (
-            leaf_of d f,
+            leaf_in_dir d f,
             inr (inside, refl),
             record {
               parent = λ i. record { 0 = sym at i };
@@ -101,28 +101,28 @@ module _ (old new : Roots) (d : ℕ) (f : Fragment) (is : IsRootMerge old new d 
         },
       )
 
-  still_top : (g : Fragment) → HasLeaf (leaves_of later 1) g → IsSome (map.get new (leaf_of 1 g))
+  still_top : (g : Fragment) → HasLeaf (leaves_of later 1) g → IsSome (map.get new (leaf_in_dir 1 g))
   still_top g there = go (nat.same_or_apart 1 d)
     where
-      go : (1 ≡ d) ⊎ (1 ≢ d) → IsSome (map.get new (leaf_of 1 g))
+      go : (1 ≡ d) ⊎ (1 ≢ d) → IsSome (map.get new (leaf_in_dir 1 g))
       go (inr apart) =
           let root = valid.top g (subst (λ ls. HasLeaf ls g) (leaves_still covers later d to changed 1 apart) there) in
-          ap is_some (unchanged (leaf_of 1 g) (valid.live (leaf_of 1 g) root) (elsewhere_out d f (leaf_of 1 g) apart)) ∙ root
+          ap is_some (unchanged (leaf_in_dir 1 g) (valid.live (leaf_in_dir 1 g) root) (elsewhere_out d f (leaf_in_dir 1 g) apart)) ∙ root
       go (inl at) = elim ((merge.leaves g).0 (subst (λ ls. HasLeaf ls g) (ap (leaves_of later) at ∙ leaves_now covers later d to changed) there)) [
         | inl (before, outside) ↦
             let root = valid.top g (subst (λ e. HasLeaf (leaves_of covers e) g) (sym at) before) in
-            let out : is_inside d f (leaf_of 1 g) ≡ false = subst (λ e. is_inside d f (leaf_of e g) ≡ false) (sym at) (here_out d f (leaf_of d g) outside) in
-            ap is_some (unchanged (leaf_of 1 g) (valid.live (leaf_of 1 g) root) out) ∙ root
+            let out : is_inside d f (leaf_in_dir 1 g) ≡ false = subst (λ e. is_inside d f (leaf_in_dir e g) ≡ false) (sym at) (here_out d f (leaf_in_dir d g) outside) in
+            ap is_some (unchanged (leaf_in_dir 1 g) (valid.live (leaf_in_dir 1 g) root) out) ∙ root
         | inr merged ↦
             let inside = some_inside (leaves_of covers d) f can.some in
             let root = valid.top inside.0 (subst (λ e. HasLeaf (leaves_of covers e) inside.0) (sym at) inside.1) in
-            subst (λ h. IsSome (map.get new (leaf_of 1 h))) (sym merged) (subst (λ e. IsSome (map.get new (leaf_of e f))) (sym at) (is.some (leaf_of 1 inside.0) (is_within d f (leaf_of 1 inside.0) at inside.2) root))
+            subst (λ h. IsSome (map.get new (leaf_in_dir 1 h))) (sym merged) (subst (λ e. IsSome (map.get new (leaf_in_dir e f))) (sym at) (is.some (leaf_in_dir 1 inside.0) (is_within d f (leaf_in_dir 1 inside.0) at inside.2) root))
       ]
 
   still_live : (root : Leaf) → IsSome (map.get new root) → IsLive homes later root
-  still_live root there = go (same_or_apart root (leaf_of d f)) (is_inside d f root) refl
+  still_live root there = go (same_or_apart root (leaf_in_dir d f)) (is_inside d f root) refl
     where
-      known_d : IsSome (map.get new (leaf_of d f)) → is_known homes d ≡ true
+      known_d : IsSome (map.get new (leaf_in_dir d f)) → is_known homes d ≡ true
       known_d some =
           let now = value_of _ some in
           let from = is.rank now.0 now.1 in
@@ -138,10 +138,10 @@ module _ (old new : Roots) (d : ℕ) (f : Fragment) (is : IsRootMerge old new d 
           stands_here homes covers later d to changed root at (subst (λ e. is_known homes e ≡ true) at live.known)
           ((merge.leaves root.1).1 (inl (subst (λ e. HasLeaf (leaves_of covers e) root.1) at live.stands, outside_of d f root at outside)))
 
-      go : (root ≡ leaf_of d f) ⊎ (root ≢ leaf_of d f) → (b : Bool) → is_inside d f root ≡ b → IsLive homes later root
+      go : (root ≡ leaf_in_dir d f) ⊎ (root ≢ leaf_in_dir d f) → (b : Bool) → is_inside d f root ≡ b → IsLive homes later root
       go (inl same) _ _ =
           subst (IsLive homes later) (sym same)
-          (stands_here homes covers later d to changed (leaf_of d f) refl (known_d (subst (λ k. IsSome (map.get new k)) same there)) ((merge.leaves f).1 (inr refl)))
+          (stands_here homes covers later d to changed (leaf_in_dir d f) refl (known_d (subst (λ k. IsSome (map.get new k)) same there)) ((merge.leaves f).1 (inr refl)))
       go (inr apart) true inside = let gone = value_of _ there in absurd (not_none _ gone.0 (is.gone root inside) gone.1)
       go (inr apart) false outside = stood outside (valid.live root (ap is_some (sym (is.others root outside apart)) ∙ there)) (nat.same_or_apart root.0.0 d)
 

@@ -1,5 +1,5 @@
 -- A directory moves: every leaf has the authority that it had.
-use Rattle.subtree_map.proofs.Common.{Covers, HasAuthority, HasLeaf, HoldsDentry, Home, Homes, Ino, IsAbove, IsInheritedAt, IsLive, IsSettled, IsSubtrees, IsTable, Leaf, MayMove, MovesSoundly, NearestRoot, None, Rank, Roots, Some, ap, further, inherited, inl, inr, is_known, is_some, itself, leaf_of, leaves_of, parent, still_known, subst, sym, true, ℕ, ◌∙◌, ◌≡◌, ◌≢◌, ◌⊎◌}
+use Rattle.subtree_map.proofs.Common.{Covers, HasAuthority, HasLeaf, HoldsDentry, Home, Homes, Ino, IsAncestor, IsInheritedAt, IsLive, KeepsRanksOf, IsSubtrees, IsTable, Leaf, MayMove, MovesSoundly, NearestRoot, None, Rank, Roots, Some, ap, further, inherited, inl, inr, is_known, is_some, itself, leaf_in_dir, leaves_of, parent, still_known, subst, sym, true, ℕ, ◌∙◌, ◌≡◌, ◌≢◌, ◌⊎◌}
 use Rattle.std.specs.FinMap as map
 use Rattle.sorted_map.proofs.NatKeys as nat
 use Rattle.subtree_map.proofs.Nearest.{holder_is_leaf, some_holder, some_authority}
@@ -11,14 +11,14 @@ same_rank a b = elim (nat.same_or_apart a.0 b.0) [
   | inr apart ↦ inr (λ same. apart (ap (λ (r : Rank). r.0) same))
 ]
 
-module _ (old new : Roots) (homes : Homes) (covers : Covers) (d : ℕ) (home : Home) (is : IsSettled old new homes covers d home) (table : IsTable homes covers) (valid : IsSubtrees old homes covers) (may : MayMove homes d home) where
+module _ (old new : Roots) (homes : Homes) (covers : Covers) (d : ℕ) (home : Home) (is : KeepsRanksOf old new homes covers d home) (table : IsTable homes covers) (valid : IsSubtrees old homes covers) (may : MayMove homes d home) where
   -- the way up from what is neither the directory nor below it stays
-  way : (leaf root : Leaf) → leaf.0.0 ≢ d → (IsAbove homes d leaf.0.0 → ⊥) → NearestRoot old homes covers leaf root → NearestRoot new (map.insert homes d home) covers leaf root × (map.get new root ≡ map.get old root)
+  way : (leaf root : Leaf) → leaf.0.0 ≢ d → (IsAncestor homes d leaf.0.0 → ⊥) → NearestRoot old homes covers leaf root → NearestRoot new (map.insert homes d home) covers leaf root × (map.get new root ≡ map.get old root)
   way _ _ apart free (itself root rank has) = let stays = is.elsewhere root apart in (itself root rank (stays ∙ has), stays)
   way _ _ apart free (inherited leaf holder root place none stands holds rest) =
       let at : place.parent.0 ≡ holder.0.0 = ap (λ (p : Ino). p.0) (sym holds.parent) in
       let other : holder.0.0 ≢ d = λ same. free (parent leaf.0.0 place stands (at ∙ same)) in
-      let above : IsAbove homes d holder.0.0 → ⊥ = λ over. free (further leaf.0.0 place stands (subst (IsAbove homes d) (sym at) over)) in
+      let above : IsAncestor homes d holder.0.0 → ⊥ = λ over. free (further leaf.0.0 place stands (subst (IsAncestor homes d) (sym at) over)) in
       let up = way holder root other above rest in
       (inherited leaf holder root place (is.elsewhere leaf apart ∙ none) (nat.get_beside homes d home leaf.0.0 apart ∙ stands) holds up.0, up.1)
 
@@ -37,7 +37,7 @@ module _ (old new : Roots) (homes : Homes) (covers : Covers) (d : ℕ) (home : H
   there =
       let now = some_authority old homes covers table valid up_there.0 up_is_leaf in
       let at : home.parent.0 ≡ up_there.0.0.0 = ap (λ (p : Ino). p.0) (sym up_there.1.parent) in
-      let up = way up_there.0 now.1.root (λ same. may.other (at ∙ same)) (λ over. may.not_below (subst (IsAbove homes d) (sym at) over)) now.1.nearest in
+      let up = way up_there.0 now.1.root (λ same. may.other (at ∙ same)) (λ over. may.not_below (subst (IsAncestor homes d) (sym at) over)) now.1.nearest in
       (now.0, now.1, record { root = now.1.root; nearest = up.0; ranked = up.1 ∙ now.1.ranked })
 
   -- a leaf of the directory that inherits
@@ -79,7 +79,7 @@ module _ (old new : Roots) (homes : Homes) (covers : Covers) (d : ℕ) (home : H
   moves_soundly = (
     λ leaf after rank stood same has. subst (λ k. HasAuthority new (map.insert homes d home) covers k rank) (sym same) (moved_by leaf has.root stood has.nearest rank has.ranked),
     record {
-      top = λ f has. let root = valid.top f has in ap is_some (is.kept (leaf_of 1 f) root) ∙ root;
+      top = λ f has. let root = valid.top f has in ap is_some (is.kept (leaf_in_dir 1 f) root) ∙ root;
       live = λ root some. elim (is.made root some) [
         | inl before ↦ still (valid.live root before)
         | inr live ↦ still live

@@ -1,5 +1,5 @@
 -- The rows from a root on: it comes first, and behind it those from the next root on.
-use Rattle.subtree_map.proofs.Common.{Bool, Equal, Greater, IsFirst, IsRootIfSome, Leaf, Less, List, None, Option, Ordering, Rank, Roots, Some, T, [], ap, below_all, cond, entries_sorted, false, find, get-entries, inl, inr, is_after, is_eq, is_from, is_le, is_lt, is_some, is_sorted, leaf-exact, leaf-total, leaf_cmp, left_of, ordering_reverse, refl, right_of, rows_from, sym, tied_itself, true, where_key, ◌∙◌, ◌∷◌, ◌≡◌, ◌⊎◌}
+use Rattle.subtree_map.proofs.Common.{Bool, Equal, Greater, IsFirst, IsRootIfSome, Leaf, Less, List, None, Option, Ordering, Rank, Roots, Some, T, [], ap, below_all, cond, entries_sorted, false, find, get-entries, inl, inr, is_leaf_after, is_eq, is_from, is_le, is_lt, is_some, is_sorted, leaf-exact, leaf-total, leaf_cmp, left_of, ordering_reverse, refl, right_of, rows_from, sym, tied_itself, true, where_key, ◌∙◌, ◌∷◌, ◌≡◌, ◌⊎◌}
 use Rattle.std.specs.FinMap as map
 use Rattle.sorted_map.proofs.PlaceLaws.{less as less_of}
 use Rattle.subtree_map.proofs.Firsts.{behind, first_row}
@@ -68,8 +68,8 @@ rows_pass rows p up first is = go (where_key leaf_cmp p (map.entries rows)) refl
     go (e ∷ rest) some =
         some ∙ sym (from_first p up (map.entries rows) rest e (entries_sorted rows) some) ∙ ap (rows_from rows) (one_first rows p (Some e.0) first (first_row rows p (e ∷ rest) (sym some)) is)
 
-pub all_rows : (rows : Roots) (first : Option Leaf) → IsFirst rows (is_after None) first → rows_from rows first ≡ map.entries rows
-all_rows rows first is = sym (all_pass (map.entries rows) ∙ rows_pass rows (is_after None) (λ x y on less. refl) first is)
+pub all_rows : (rows : Roots) (first : Option Leaf) → IsFirst rows (is_leaf_after None) first → rows_from rows first ≡ map.entries rows
+all_rows rows first is = sym (all_pass (map.entries rows) ∙ rows_pass rows (is_leaf_after None) (λ x y on less. refl) first is)
 
 lt_less : (r : Ordering) → is_lt r ≡ true → r ≡ Less
 lt_less Less is = refl
@@ -77,15 +77,15 @@ lt_less Equal is = let clash : false ≡ true = is in absurd cc
 lt_less Greater is = let clash : false ≡ true = is in absurd cc
 
 -- a root comes first of the rows from it on
-leads : (es : List (Leaf × Rank)) (leaf : Leaf) (rank : Rank) → T (is_sorted leaf_cmp es) → find leaf_cmp leaf es ≡ Some rank → where_key leaf_cmp (is_from leaf_cmp leaf) es ≡ (leaf, rank) ∷ where_key leaf_cmp (is_after (Some leaf)) es
+leads : (es : List (Leaf × Rank)) (leaf : Leaf) (rank : Rank) → T (is_sorted leaf_cmp es) → find leaf_cmp leaf es ≡ Some rank → where_key leaf_cmp (is_from leaf_cmp leaf) es ≡ (leaf, rank) ∷ where_key leaf_cmp (is_leaf_after (Some leaf)) es
 leads [] leaf rank sorted has = let clash : None ≡ Some rank = has in absurd cc
 leads (e ∷ es) leaf rank sorted has = go (leads es leaf rank (right_of _ _ sorted)) (leaf_cmp leaf e.0) refl
   where
-    tests : (b c : Bool) → is_le (leaf_cmp leaf e.0) ≡ b → is_lt (leaf_cmp leaf e.0) ≡ c → cond b (e ∷ where_key leaf_cmp (is_from leaf_cmp leaf) es) (where_key leaf_cmp (is_from leaf_cmp leaf) es) ≡ (leaf, rank) ∷ cond c (e ∷ where_key leaf_cmp (is_after (Some leaf)) es) (where_key leaf_cmp (is_after (Some leaf)) es)
-        → where_key leaf_cmp (is_from leaf_cmp leaf) (e ∷ es) ≡ (leaf, rank) ∷ where_key leaf_cmp (is_after (Some leaf)) (e ∷ es)
+    tests : (b c : Bool) → is_le (leaf_cmp leaf e.0) ≡ b → is_lt (leaf_cmp leaf e.0) ≡ c → cond b (e ∷ where_key leaf_cmp (is_from leaf_cmp leaf) es) (where_key leaf_cmp (is_from leaf_cmp leaf) es) ≡ (leaf, rank) ∷ cond c (e ∷ where_key leaf_cmp (is_leaf_after (Some leaf)) es) (where_key leaf_cmp (is_leaf_after (Some leaf)) es)
+        → where_key leaf_cmp (is_from leaf_cmp leaf) (e ∷ es) ≡ (leaf, rank) ∷ where_key leaf_cmp (is_leaf_after (Some leaf)) (e ∷ es)
     tests b c at below is =
         ap (λ t. cond t (e ∷ where_key leaf_cmp (is_from leaf_cmp leaf) es) (where_key leaf_cmp (is_from leaf_cmp leaf) es)) at ∙ is
-        ∙ ap (λ t. (leaf, rank) ∷ cond t (e ∷ where_key leaf_cmp (is_after (Some leaf)) es) (where_key leaf_cmp (is_after (Some leaf)) es)) (sym below)
+        ∙ ap (λ t. (leaf, rank) ∷ cond t (e ∷ where_key leaf_cmp (is_leaf_after (Some leaf)) es) (where_key leaf_cmp (is_leaf_after (Some leaf)) es)) (sym below)
 
     found_here : leaf_cmp leaf e.0 ≡ Equal → Some e.1 ≡ Some rank
     found_here tied = sym (ap (λ r. cond (is_eq r) (Some e.1) (find leaf_cmp leaf es)) tied) ∙ has
@@ -96,8 +96,8 @@ leads (e ∷ es) leaf rank sorted has = go (leads es leaf rank (right_of _ _ sor
     same_row : leaf ≡ e.0 → Some e.1 ≡ Some rank → ◌≡◌ {A = Leaf × Rank} e (leaf, rank)
     same_row same value = let v : e.1 ≡ rank = (let x : Some e.1 ≡ Some rank = value in cc) in λ i. (sym same i, v i)
 
-    go : (find leaf_cmp leaf es ≡ Some rank → where_key leaf_cmp (is_from leaf_cmp leaf) es ≡ (leaf, rank) ∷ where_key leaf_cmp (is_after (Some leaf)) es) → (r : Ordering) → leaf_cmp leaf e.0 ≡ r
-        → where_key leaf_cmp (is_from leaf_cmp leaf) (e ∷ es) ≡ (leaf, rank) ∷ where_key leaf_cmp (is_after (Some leaf)) (e ∷ es)
+    go : (find leaf_cmp leaf es ≡ Some rank → where_key leaf_cmp (is_from leaf_cmp leaf) es ≡ (leaf, rank) ∷ where_key leaf_cmp (is_leaf_after (Some leaf)) es) → (r : Ordering) → leaf_cmp leaf e.0 ≡ r
+        → where_key leaf_cmp (is_from leaf_cmp leaf) (e ∷ es) ≡ (leaf, rank) ∷ where_key leaf_cmp (is_leaf_after (Some leaf)) (e ∷ es)
     go later Less at =
         let after = behind e.0 es leaf (left_of _ _ sorted) (ap is_some (found_later Less at refl)) in
         let clash : Greater ≡ Less = sym (turned leaf e.0 Less at) ∙ after in
@@ -106,12 +106,12 @@ leads (e ∷ es) leaf rank sorted has = go (leads es leaf rank (right_of _ _ sor
         let same = leaf-exact leaf e.0 at in
         let above : (x : Leaf) → leaf_cmp e.0 x ≡ Less → leaf_cmp leaf x ≡ Less = λ x less. ap (λ (k : Leaf). leaf_cmp k x) same ∙ less in
         tests true false (ap is_le at) (ap is_lt at)
-        (ap (λ t. e ∷ t) (above_all (is_from leaf_cmp leaf) e.0 es (λ x less. ap is_le (above x less)) (left_of _ _ sorted) ∙ sym (above_all (is_after (Some leaf)) e.0 es (λ x less. ap is_lt (above x less)) (left_of _ _ sorted)))
-        ∙ ap (λ d. d ∷ where_key leaf_cmp (is_after (Some leaf)) es) (same_row same (found_here at)))
+        (ap (λ t. e ∷ t) (above_all (is_from leaf_cmp leaf) e.0 es (λ x less. ap is_le (above x less)) (left_of _ _ sorted) ∙ sym (above_all (is_leaf_after (Some leaf)) e.0 es (λ x less. ap is_lt (above x less)) (left_of _ _ sorted)))
+        ∙ ap (λ d. d ∷ where_key leaf_cmp (is_leaf_after (Some leaf)) es) (same_row same (found_here at)))
     go later Greater at = tests false false (ap is_le at) (ap is_lt at) (later (found_later Greater at refl))
 
 -- a root, and behind it the rows from the next one on
-pub next_rows : (rows : Roots) (leaf : Leaf) (rank : Rank) (next : Option Leaf) → map.get rows leaf ≡ Some rank → IsFirst rows (is_after (Some leaf)) next → rows_from rows (Some leaf) ≡ (leaf, rank) ∷ rows_from rows next
+pub next_rows : (rows : Roots) (leaf : Leaf) (rank : Rank) (next : Option Leaf) → map.get rows leaf ≡ Some rank → IsFirst rows (is_leaf_after (Some leaf)) next → rows_from rows (Some leaf) ≡ (leaf, rank) ∷ rows_from rows next
 next_rows rows leaf rank next has is =
     leads (map.entries rows) leaf rank (entries_sorted rows) (sym (get-entries rows leaf) ∙ has)
-    ∙ ap (λ t. (leaf, rank) ∷ t) (rows_pass rows (is_after (Some leaf)) (λ x y on less. ap is_lt (leaf-total.trans leaf x y (lt_less _ on) less)) next is)
+    ∙ ap (λ t. (leaf, rank) ∷ t) (rows_pass rows (is_leaf_after (Some leaf)) (λ x y on less. ap is_lt (leaf-total.trans leaf x y (lt_less _ on) less)) next is)

@@ -1,5 +1,5 @@
 -- Which leaves a directory's move makes roots.
-use Rattle.subtree_map.proofs.Common.{AreFilled, Covers, HasAuthority, HasLeaf, HoldsDentry, Home, Homes, IsInheritedAt, IsLive, IsLostRank, IsSettled, IsSome, Leaf, MayMove, NearestRoot, None, Option, Rank, Roots, Some, ap, inherited, inl, inr, is_known, is_some, itself, known_by, leaf_of, leaves_of, refl, subst, sym, true, ℕ, ◌∙◌, ◌≡◌, ◌⊎◌}
+use Rattle.subtree_map.proofs.Common.{AreFilled, Covers, HasAuthority, HasLeaf, HoldsDentry, Home, Homes, IsInheritedAt, IsLive, IsLostRank, KeepsRanksOf, IsSome, Leaf, MayMove, NearestRoot, None, Option, Rank, Roots, Some, ap, inherited, inl, inr, is_known, is_some, itself, known_by, leaf_in_dir, leaves_of, refl, subst, sym, true, ℕ, ◌∙◌, ◌≡◌, ◌⊎◌}
 use Rattle.std.specs.FinMap as map
 use Rattle.subtree_map.proofs.Options.{not_none, one_value}
 use Rattle.subtree_map.proofs.Nearest.{one_authority, one_holder}
@@ -23,7 +23,7 @@ inherits roots homes covers leaf was rank none stands has = go leaf has.root non
 
 module _ (old : Roots) (homes : Homes) (covers : Covers) (d : ℕ) (home : Home) where
   -- where the rank stays nothing changes
-  pub settled_none : (new : Roots) → new ≡ old → IsLostRank old homes covers d home None → IsSettled old new homes covers d home
+  pub settled_none : (new : Roots) → new ≡ old → IsLostRank old homes covers d home None → KeepsRanksOf old new homes covers d home
   settled_none new is (was, kept, stands, before, after) = record {
     elsewhere = λ leaf apart. ap (λ m. map.get m leaf) is;
     kept = λ leaf some. ap (λ m. map.get m leaf) is;
@@ -37,7 +37,7 @@ module _ (old : Roots) (homes : Homes) (covers : Covers) (d : ℕ) (home : Home)
   }
 
   -- where it would be lost the leaves that inherit it get it
-  pub settled_filled : (new : Roots) (rank : Rank) → MayMove homes d home → IsLostRank old homes covers d home (Some rank) → AreFilled old new d (leaves_of covers d) rank → IsSettled old new homes covers d home
+  pub settled_filled : (new : Roots) (rank : Rank) → MayMove homes d home → IsLostRank old homes covers d home (Some rank) → AreFilled old new d (leaves_of covers d) rank → KeepsRanksOf old new homes covers d home
   settled_filled new rank may (was, other, stands, before, after, apart) filled = record {
     elsewhere = filled.elsewhere;
     kept = filled.there;
@@ -49,7 +49,7 @@ module _ (old : Roots) (homes : Homes) (covers : Covers) (d : ℕ) (home : Home)
         );
     lost = λ leaf r another stood at none has there differs.
         let own = is_own leaf r at none has in
-        let key : ◌≡◌ {A = Leaf} leaf (leaf_of d leaf.1) = λ i. (record { 0 = at i }, leaf.1) in
+        let key : ◌≡◌ {A = Leaf} leaf (leaf_in_dir d leaf.1) = λ i. (record { 0 = at i }, leaf.1) in
         let here : HasLeaf (leaves_of covers d) leaf.1 = subst (λ e. HasLeaf (leaves_of covers e) leaf.1) at stood.stands in
         ap (map.get new) key ∙ filled.absent leaf.1 here (ap (map.get old) (sym key) ∙ none) ∙ ap (λ (q : Rank). Some q) (sym own);
   }

@@ -1,5 +1,5 @@
 -- A leaf is split: all leaves keep their authority, and its children have that of the leaf.
-use Rattle.subtree_map.proofs.Common.{BecomesSplit, Covers, FitsSplit, Fragment, HasAuthority, HasLeaf, HoldsDentry, Home, Homes, Ino, IsChild, IsLive, IsPick, IsRootSplit, IsSome, IsSplit, IsSubtrees, IsTable, IsTree, KeepAuthority, Leaf, List, None, Rank, Roots, Some, SplitsSoundly, ap, child_after_split, hash_of, inl, inr, is_known, is_some, leaf_of, leaves_of, pick_after_split, refl, same_or_apart, some_pick, subst, sym, tree_of_row, true, ℕ, ◌∙◌, ◌≡◌, ◌≢◌, ◌⊎◌}
+use Rattle.subtree_map.proofs.Common.{BecomesSplit, Covers, FitsSplit, Fragment, HasAuthority, HasLeaf, HoldsDentry, Home, Homes, Ino, IsChild, IsLive, IsPick, IsRootSplit, IsSome, IsSplit, IsSubtrees, IsTable, IsTree, KeepAuthority, Leaf, List, None, Rank, Roots, Some, SplitsSoundly, ap, child_after_split, hash_of, inl, inr, is_known, is_some, leaf_in_dir, leaves_of, pick_after_split, refl, same_or_apart, some_pick, subst, sym, tree_of_row, true, ℕ, ◌∙◌, ◌≡◌, ◌≢◌, ◌⊎◌}
 use Rattle.std.specs.FinMap as map
 use Rattle.sorted_map.proofs.NatKeys as nat
 use Rattle.subtree_map.proofs.Options.{not_none, value_of}
@@ -26,12 +26,12 @@ module _ (old new : Roots) (d : ℕ) (f : Fragment) (nb : ℕ) (is : IsRootSplit
   was = tree_of_row homes covers table d
 
   -- a leaf that stood is no child of the one that is split
-  no_child : (leaf : Leaf) → IsLive homes covers leaf → (g : Fragment) → IsChild f nb g → leaf ≢ leaf_of d g
+  no_child : (leaf : Leaf) → IsLive homes covers leaf → (g : Fragment) → IsChild f nb g → leaf ≢ leaf_in_dir d g
   no_child leaf stood g child same =
       let there : HasLeaf (leaves_of covers d) g = subst (λ (k : Leaf). HasLeaf (leaves_of covers k.0.0) k.1) same stood.stands in
       child_is_new (leaves_of covers d) f g nb was has fits child there
 
-  unchanged : (leaf : Leaf) → IsLive homes covers leaf → leaf ≢ leaf_of d f → map.get new leaf ≡ map.get old leaf
+  unchanged : (leaf : Leaf) → IsLive homes covers leaf → leaf ≢ leaf_in_dir d f → map.get new leaf ≡ map.get old leaf
   unchanged leaf stood apart = is.others leaf apart (no_child leaf stood)
 
   place : (leaf after : Leaf) → BecomesSplit d f nb leaf after → after.0 ≡ leaf.0
@@ -41,24 +41,24 @@ module _ (old new : Roots) (d : ℕ) (f : Fragment) (nb : ℕ) (is : IsRootSplit
   ranked : (leaf after : Leaf) (rank : Rank) → IsLive homes covers leaf → BecomesSplit d f nb leaf after → map.get old leaf ≡ Some rank → map.get new after ≡ Some rank
   ranked leaf after rank stood (inl (apart, same)) ranks = ap (map.get new) same ∙ unchanged leaf stood apart ∙ ranks
   ranked leaf after rank stood (inr (itself, (g, child, same))) ranks =
-      let root : map.get old (leaf_of d f) ≡ Some rank = ap (map.get old) (sym itself) ∙ ranks in
+      let root : map.get old (leaf_in_dir d f) ≡ Some rank = ap (map.get old) (sym itself) ∙ ranks in
       ap (map.get new) same ∙ is.children g child (ap is_some root) ∙ root
 
   -- a child isn't a root before
-  child_is_none : (g : Fragment) → IsChild f nb g → IsSome (map.get old (leaf_of d g)) → ⊥
-  child_is_none g child root = no_child (leaf_of d g) (valid.live (leaf_of d g) root) g child refl
+  child_is_none : (g : Fragment) → IsChild f nb g → IsSome (map.get old (leaf_in_dir d g)) → ⊥
+  child_is_none g child root = no_child (leaf_in_dir d g) (valid.live (leaf_in_dir d g) root) g child refl
 
   gained : (leaf after : Leaf) (rank now : Rank) → IsLive homes covers leaf → BecomesSplit d f nb leaf after → map.get old leaf ≡ None → HasAuthority old homes covers leaf rank → map.get new after ≡ Some now → now ≡ rank
   gained leaf after rank now stood (inl (apart, same)) none its gets = absurd (not_none _ now (ap (map.get new) same ∙ unchanged leaf stood apart ∙ none) gets)
   gained leaf after rank now stood (inr (itself, (g, child, same))) none its gets =
-      let root : IsSome (map.get new (leaf_of d g)) = ap is_some (ap (map.get new) (sym same) ∙ gets) in
-      elim (is.made (leaf_of d g) root) [
+      let root : IsSome (map.get new (leaf_in_dir d g)) = ap is_some (ap (map.get new) (sym same) ∙ gets) in
+      elim (is.made (leaf_in_dir d g) root) [
         | inl before ↦ absurd (child_is_none g child before)
         | inr (split_root, _) ↦ let there = value_of _ split_root in absurd (not_none _ there.0 (ap (map.get old) (sym itself) ∙ none) there.1)
       ]
 
   holders : (home : Home) (holder : Leaf) → IsLive homes covers holder → HoldsDentry covers home holder → (after : Leaf) × BecomesSplit d f nb holder after × HoldsDentry later home after
-  holders home holder stood holds = go (same_or_apart holder (leaf_of d f)) (nat.same_or_apart home.parent.0 d)
+  holders home holder stood holds = go (same_or_apart holder (leaf_in_dir d f)) (nat.same_or_apart home.parent.0 d)
     where
       now_at : home.parent.0 ≡ d → leaves_of later home.parent.0 ≡ to
       now_at at = ap (leaves_of later) at ∙ leaves_now covers later d to changed
@@ -69,12 +69,12 @@ module _ (old new : Roots) (d : ℕ) (f : Fragment) (nb : ℕ) (is : IsRootSplit
       pick_at : home.parent.0 ≡ d → IsPick (leaves_of covers d) (hash_of home.name) holder.1
       pick_at at = subst (λ ls. IsPick ls (hash_of home.name) holder.1) (old_at at) holds.pick
 
-      go : (holder ≡ leaf_of d f) ⊎ (holder ≢ leaf_of d f) → (home.parent.0 ≡ d) ⊎ (home.parent.0 ≢ d) → (after : Leaf) × BecomesSplit d f nb holder after × HoldsDentry later home after
+      go : (holder ≡ leaf_in_dir d f) ⊎ (holder ≢ leaf_in_dir d f) → (home.parent.0 ≡ d) ⊎ (home.parent.0 ≢ d) → (after : Leaf) × BecomesSplit d f nb holder after × HoldsDentry later home after
       go (inl itself) _ =
           let at : home.parent.0 ≡ d = ap (λ (p : Ino). p.0) (sym holds.parent) ∙ ap (λ (k : Leaf). k.0.0) itself in
           let pick = some_pick to (hash_of home.name) tree in
           let child = child_after_split (leaves_of covers d) to f tree (hash_of home.name) holder.1 (pick_at at) nb split (ap (λ (k : Leaf). k.1) itself) pick.0 pick.1 in (
-            leaf_of d pick.0,
+            leaf_in_dir d pick.0,
             inr (itself, (pick.0, child, refl)),
             record {
               parent = λ i. record { 0 = sym at i };
@@ -100,30 +100,30 @@ module _ (old new : Roots) (d : ℕ) (f : Fragment) (nb : ℕ) (is : IsRootSplit
         },
       )
 
-  still_top : (g : Fragment) → HasLeaf (leaves_of later 1) g → IsSome (map.get new (leaf_of 1 g))
+  still_top : (g : Fragment) → HasLeaf (leaves_of later 1) g → IsSome (map.get new (leaf_in_dir 1 g))
   still_top g there = go (nat.same_or_apart 1 d)
     where
-      go : (1 ≡ d) ⊎ (1 ≢ d) → IsSome (map.get new (leaf_of 1 g))
+      go : (1 ≡ d) ⊎ (1 ≢ d) → IsSome (map.get new (leaf_in_dir 1 g))
       go (inr apart) =
           let before : HasLeaf (leaves_of covers 1) g = subst (λ ls. HasLeaf ls g) (leaves_still covers later d to changed 1 apart) there in
           let root = valid.top g before in
-          ap is_some (unchanged (leaf_of 1 g) (valid.live (leaf_of 1 g) root) (λ same. apart (ap (λ (k : Leaf). k.0.0) same))) ∙ root
+          ap is_some (unchanged (leaf_in_dir 1 g) (valid.live (leaf_in_dir 1 g) root) (λ same. apart (ap (λ (k : Leaf). k.0.0) same))) ∙ root
       go (inl at) = elim ((split.leaves g).0 (subst (λ ls. HasLeaf ls g) (ap (leaves_of later) at ∙ leaves_now covers later d to changed) there)) [
         | inl (before, other) ↦
             let root = valid.top g (subst (λ e. HasLeaf (leaves_of covers e) g) (sym at) before) in
-            ap is_some (unchanged (leaf_of 1 g) (valid.live (leaf_of 1 g) root) (λ same. other (ap (λ (k : Leaf). k.1) same))) ∙ root
+            ap is_some (unchanged (leaf_in_dir 1 g) (valid.live (leaf_in_dir 1 g) root) (λ same. other (ap (λ (k : Leaf). k.1) same))) ∙ root
         | inr child ↦
-            let root : IsSome (map.get old (leaf_of d f)) = subst (λ e. IsSome (map.get old (leaf_of e f))) at (valid.top f (subst (λ e. HasLeaf (leaves_of covers e) f) (sym at) has)) in
-            subst (λ e. IsSome (map.get new (leaf_of e g))) (sym at) (ap is_some (is.children g child root) ∙ root)
+            let root : IsSome (map.get old (leaf_in_dir d f)) = subst (λ e. IsSome (map.get old (leaf_in_dir e f))) at (valid.top f (subst (λ e. HasLeaf (leaves_of covers e) f) (sym at) has)) in
+            subst (λ e. IsSome (map.get new (leaf_in_dir e g))) (sym at) (ap is_some (is.children g child root) ∙ root)
       ]
 
   still_live : (root : Leaf) → IsSome (map.get new root) → IsLive homes later root
   still_live root there = elim (is.made root there) [
-    | inl before ↦ stood (valid.live root before) (nat.same_or_apart root.0.0 d) (same_or_apart root (leaf_of d f))
-    | inr (split_root, (g, child, same)) ↦ subst (IsLive homes later) (sym same) (stands_here homes covers later d to changed (leaf_of d g) refl (valid.live (leaf_of d f) split_root).known ((split.leaves g).1 (inr child)))
+    | inl before ↦ stood (valid.live root before) (nat.same_or_apart root.0.0 d) (same_or_apart root (leaf_in_dir d f))
+    | inr (split_root, (g, child, same)) ↦ subst (IsLive homes later) (sym same) (stands_here homes covers later d to changed (leaf_in_dir d g) refl (valid.live (leaf_in_dir d f) split_root).known ((split.leaves g).1 (inr child)))
   ]
     where
-      stood : IsLive homes covers root → (root.0.0 ≡ d) ⊎ (root.0.0 ≢ d) → (root ≡ leaf_of d f) ⊎ (root ≢ leaf_of d f) → IsLive homes later root
+      stood : IsLive homes covers root → (root.0.0 ≡ d) ⊎ (root.0.0 ≢ d) → (root ≡ leaf_in_dir d f) ⊎ (root ≢ leaf_in_dir d f) → IsLive homes later root
       stood live _ (inl itself) = let gone = value_of _ there in absurd (not_none _ gone.0 (ap (map.get new) itself ∙ is.gone) gone.1)
       stood live (inr apart) _ = stands_beside homes covers later d to changed root apart live
       stood live (inl at) (inr apart) =

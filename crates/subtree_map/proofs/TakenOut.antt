@@ -1,5 +1,5 @@
 -- Rows taken out one after the other.
-use Rattle.subtree_map.proofs.Common.{AreTakenOut, Fragment, IsRootMerge, IsSome, Leaf, None, Option, Rank, Roots, Some, Subtrees, ap, arith, cond, empty_of_len, false, get-empty, get_beside, get_left, get_put, get_removed, inl, inr, is_inside, is_some, leaf-total, leaf_cmp, leaf_of, len-remove, lies_inside, nat_tests, refl, same_or_apart, suc, sym, true, zero, ℕ, ◌-◌, ◌<◌, ◌∙◌, ◌≡◌, ◌≢◌, ◌≤◌}
+use Rattle.subtree_map.proofs.Common.{AreTakenOut, Fragment, IsRootMerge, IsSome, Leaf, None, Option, Rank, Roots, Some, Subtrees, ap, arith, cond, empty_of_len, false, get-empty, get_beside, get_left, get_put, get_removed, inl, inr, is_inside, is_some, leaf-total, leaf_cmp, leaf_in_dir, len-remove, lies_inside, nat_tests, refl, same_or_apart, suc, sym, true, zero, ℕ, ◌-◌, ◌<◌, ◌∙◌, ◌≡◌, ◌≢◌, ◌≤◌}
 use Rattle.std.specs.FinMap as map
 use Rattle.subtree_map.proofs.Options.{not_none, value_of}
 use Rattle.subtree_map.proofs.Merged.{inside_of}
@@ -47,7 +47,7 @@ found_next old now next d f root before after found inside there fewer is room =
     go (Some rank) gets (Some had) so_far = (some rank gets, omega (arith, so_far.1, room))
 
 -- the fragment is put in the place of what was taken out
-pub merged_rows : (old mid new : Roots) (d : ℕ) (f : Fragment) (rank : Rank) → AreTakenOut old mid d f (Some rank) → new ≡ map.insert mid (leaf_of d f) rank → IsRootMerge old new d f
+pub merged_rows : (old mid new : Roots) (d : ℕ) (f : Fragment) (rank : Rank) → AreTakenOut old mid d f (Some rank) → new ≡ map.insert mid (leaf_in_dir d f) rank → IsRootMerge old new d f
 merged_rows old mid new d f rank (gone, others, from) is = record {
   gone = λ leaf inside. beside leaf (λ same. itself_out leaf inside same) ∙ gone leaf inside;
   others = λ leaf outside apart. beside leaf apart ∙ others leaf outside;
@@ -55,13 +55,13 @@ merged_rows old mid new d f rank (gone, others, from) is = record {
   rank = λ r has. (from.0, inr from.1, from.2 ∙ sym here ∙ has);
 }
   where
-    here : map.get new (leaf_of d f) ≡ Some rank
-    here = ap (λ m. map.get m (leaf_of d f)) is ∙ get_put mid (leaf_of d f) rank
+    here : map.get new (leaf_in_dir d f) ≡ Some rank
+    here = ap (λ m. map.get m (leaf_in_dir d f)) is ∙ get_put mid (leaf_in_dir d f) rank
 
-    beside : (leaf : Leaf) → leaf ≢ leaf_of d f → map.get new leaf ≡ map.get mid leaf
-    beside leaf apart = ap (λ m. map.get m leaf) is ∙ get_beside mid (leaf_of d f) rank leaf apart
+    beside : (leaf : Leaf) → leaf ≢ leaf_in_dir d f → map.get new leaf ≡ map.get mid leaf
+    beside leaf apart = ap (λ m. map.get m leaf) is ∙ get_beside mid (leaf_in_dir d f) rank leaf apart
 
-    itself_out : (leaf : Leaf) → is_inside d f leaf ≡ true → leaf ≡ leaf_of d f → ⊥
+    itself_out : (leaf : Leaf) → is_inside d f leaf ≡ true → leaf ≡ leaf_in_dir d f → ⊥
     itself_out leaf inside same =
         let own : lies_inside f f ≡ true = ap (lies_inside f) (ap (λ (k : Leaf). k.1) (sym same)) ∙ inside_of d f leaf inside in
         let more : f.bits < f.bits = grind (arith, nat_tests) in

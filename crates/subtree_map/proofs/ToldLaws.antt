@@ -1,5 +1,5 @@
 -- What the lists say, as one map: after a change of one leaf's rows, and of those of a directory.
-use Rattle.subtree_map.proofs.Common.{AreGone, AreOnce, Bool, Entry, Leaf, List, None, Option, Rank, Roots, Rows, Some, [], ap, arith, cond, contains_key-keys, contents, entry_at, eq_by_cmp, eqb-true, false, found, get-empty, get-from_sorted, get-insert, get_beside, get_left, get_put, get_removed, home_of, inl, inr, is_apart, is_same, is_some, leaf-exact, leaf-total, leaf_cmp, leaves_in, length, list_any, list_any-append, no_rows, option_or, refl, said, same_map, same_or_apart, says_at, suc, sym, tabulate, tie, true, with_some, zero, ℕ, ◌<◌, ◌==◌, ◌||◌, ◌∙◌, ◌∷◌, ◌≡◌, ◌≢◌}
+use Rattle.subtree_map.proofs.Common.{AreGone, AreOnce, Bool, Entry, Leaf, List, None, Option, Rank, Roots, ListRows, Some, [], ap, arith, cond, contains_key-keys, contents, entry_at, eq_by_cmp, eqb-true, false, first_told, get-empty, get-from_sorted, get-insert, get_beside, get_left, get_put, get_removed, home_of, inl, inr, is_apart, is_same, is_some, leaf-exact, leaf-total, leaf_cmp, leaves_of_lists, length, list_any, list_any-append, no_rows, option_or, refl, said, same_map, same_or_apart, says_at, suc, sym, ranks_of_leaves, tie, true, with_rank_of, zero, ℕ, ◌<◌, ◌==◌, ◌||◌, ◌∙◌, ◌∷◌, ◌≡◌, ◌≢◌}
 use Rattle.std.specs.FinMap as map
 use Rattle.subtree_map.specs.Lists.{told}
 
@@ -9,7 +9,7 @@ module _ (f : Leaf → Option Rank) where
   same_as : (q leaf : Leaf) → eq_by_cmp leaf_cmp q leaf ≡ true → f leaf ≡ f q
   same_as q leaf tied = ap f (sym (leaf-exact q leaf (tie _ tied)))
 
-  put_some : (m : Roots) (leaf q : Leaf) (o : Option Rank) → map.get (with_some m leaf o) q ≡ cond (eq_by_cmp leaf_cmp q leaf) (option_or o (map.get m q)) (map.get m q)
+  put_some : (m : Roots) (leaf q : Leaf) (o : Option Rank) → map.get (with_rank_of m leaf o) q ≡ cond (eq_by_cmp leaf_cmp q leaf) (option_or o (map.get m q)) (map.get m q)
   put_some m leaf q (Some rank) = get-insert leaf-total m leaf rank q
   put_some m leaf q None = go (eq_by_cmp leaf_cmp q leaf)
     where
@@ -17,10 +17,10 @@ module _ (f : Leaf → Option Rank) where
       go true = refl
       go false = refl
 
-  get_tabulate : (leaves : List Leaf) (q : Leaf) → map.get (tabulate f leaves) q ≡ cond (list_any (eq_by_cmp leaf_cmp q) leaves) (f q) None
+  get_tabulate : (leaves : List Leaf) (q : Leaf) → map.get (ranks_of_leaves f leaves) q ≡ cond (list_any (eq_by_cmp leaf_cmp q) leaves) (f q) None
   get_tabulate [] q = get-empty leaf_cmp q
   get_tabulate (leaf ∷ leaves) q =
-      put_some (tabulate f leaves) leaf q (f leaf)
+      put_some (ranks_of_leaves f leaves) leaf q (f leaf)
       ∙ ap (λ o. cond (eq_by_cmp leaf_cmp q leaf) (option_or (f leaf) o) o) (get_tabulate leaves q)
       ∙ go (eq_by_cmp leaf_cmp q leaf) refl (list_any (eq_by_cmp leaf_cmp q) leaves) (f leaf) refl
     where
@@ -36,11 +36,11 @@ module _ (says : Entry → Option Rank) where
 
   -- ---- what is found
 
-  unlisted : (lists : List Rows) (q : Leaf) → list_any (eq_by_cmp leaf_cmp q) (leaves_in lists) ≡ false → found says lists q ≡ None
+  unlisted : (lists : List ListRows) (q : Leaf) → list_any (eq_by_cmp leaf_cmp q) (leaves_of_lists lists) ≡ false → first_told says lists q ≡ None
   unlisted [] q none = refl
   unlisted (rows ∷ more) q none =
-      let parts = split_or _ _ (sym (list_any-append (eq_by_cmp leaf_cmp q) (map.keys (contents leaf_cmp rows)) (leaves_in more)) ∙ none) in
-      ap (λ (o : Option Rank). option_or o (found says more q)) (ap (said says) (no_key (entry_at rows q) (contains_key-keys (contents leaf_cmp rows) q ∙ parts.0))) ∙ unlisted more q parts.1
+      let parts = split_or _ _ (sym (list_any-append (eq_by_cmp leaf_cmp q) (map.keys (contents leaf_cmp rows)) (leaves_of_lists more)) ∙ none) in
+      ap (λ (o : Option Rank). option_or o (first_told says more q)) (ap (said says) (no_key (entry_at rows q) (contains_key-keys (contents leaf_cmp rows) q ∙ parts.0))) ∙ unlisted more q parts.1
     where
       split_or : (a b : Bool) → (a || b) ≡ false → (a ≡ false) × (b ≡ false)
       split_or true b is = let clash : true ≡ false = is in absurd cc
@@ -51,58 +51,58 @@ module _ (says : Entry → Option Rank) where
       no_key (Some e) is = let clash : true ≡ false = is in absurd cc
 
   -- what the one map has of a leaf is what is found of it
-  pub get_told : (lists : List Rows) (q : Leaf) → map.get (told says lists) q ≡ found says lists q
+  pub get_told : (lists : List ListRows) (q : Leaf) → map.get (told says lists) q ≡ first_told says lists q
   unfolding told
-  get_told lists q = get_tabulate (found says lists) (leaves_in lists) q ∙ go (list_any (eq_by_cmp leaf_cmp q) (leaves_in lists)) refl
+  get_told lists q = get_tabulate (first_told says lists) (leaves_of_lists lists) q ∙ go (list_any (eq_by_cmp leaf_cmp q) (leaves_of_lists lists)) refl
     where
-      go : (b : Bool) → list_any (eq_by_cmp leaf_cmp q) (leaves_in lists) ≡ b → cond b (found says lists q) None ≡ found says lists q
+      go : (b : Bool) → list_any (eq_by_cmp leaf_cmp q) (leaves_of_lists lists) ≡ b → cond b (first_told says lists q) None ≡ first_told says lists q
       go true is = refl
       go false is = sym (unlisted lists q is)
 
   said_beyond : (i : ℕ) (q : Leaf) → says_at says [] i q ≡ None
   said_beyond i q = ap (said says) (none_there q)
 
-  pub nowhere : (lists : List Rows) (q : Leaf) → ((i : ℕ) → says_at says lists i q ≡ None) → found says lists q ≡ None
+  pub nowhere : (lists : List ListRows) (q : Leaf) → ((i : ℕ) → says_at says lists i q ≡ None) → first_told says lists q ≡ None
   nowhere [] q none = refl
-  nowhere (rows ∷ more) q none = ap (λ (o : Option Rank). option_or o (found says more q)) (none zero) ∙ nowhere more q (λ i. none (suc i))
+  nowhere (rows ∷ more) q none = ap (λ (o : Option Rank). option_or o (first_told says more q)) (none zero) ∙ nowhere more q (λ i. none (suc i))
 
-  pub found_same : (now old : List Rows) (q : Leaf) → ((i : ℕ) → says_at says now i q ≡ says_at says old i q) → found says now q ≡ found says old q
+  pub found_same : (now old : List ListRows) (q : Leaf) → ((i : ℕ) → says_at says now i q ≡ says_at says old i q) → first_told says now q ≡ first_told says old q
   found_same [] old q same = sym (nowhere old q (λ i. sym (same i) ∙ said_beyond i q))
   found_same (rows ∷ more) [] q same = nowhere (rows ∷ more) q (λ i. same i ∙ said_beyond i q)
   found_same (rows ∷ more) (was ∷ before) q same =
-      ap (λ (o : Option Rank). option_or o (found says more q)) (same zero) ∙ ap (option_or (said says (entry_at was q))) (found_same more before q (λ i. same (suc i)))
+      ap (λ (o : Option Rank). option_or o (first_told says more q)) (same zero) ∙ ap (option_or (said says (entry_at was q))) (found_same more before q (λ i. same (suc i)))
 
-  pub only_at : (lists : List Rows) (at : ℕ) (q : Leaf) (rank : Rank) → says_at says lists at q ≡ Some rank → ((i : ℕ) → i ≢ at → says_at says lists i q ≡ None) → found says lists q ≡ Some rank
+  pub only_at : (lists : List ListRows) (at : ℕ) (q : Leaf) (rank : Rank) → says_at says lists at q ≡ Some rank → ((i : ℕ) → i ≢ at → says_at says lists i q ≡ None) → first_told says lists q ≡ Some rank
   only_at [] at q rank is none = let clash : None ≡ Some rank = sym (said_beyond at q) ∙ is in absurd cc
-  only_at (rows ∷ more) zero q rank is none = ap (λ (o : Option Rank). option_or o (found says more q)) is
+  only_at (rows ∷ more) zero q rank is none = ap (λ (o : Option Rank). option_or o (first_told says more q)) is
   only_at (rows ∷ more) (suc at) q rank is none =
-      ap (λ (o : Option Rank). option_or o (found says more q)) (none zero (λ (e : zero ≡ suc at). omega (arith, e)))
+      ap (λ (o : Option Rank). option_or o (first_told says more q)) (none zero (λ (e : zero ≡ suc at). omega (arith, e)))
       ∙ only_at more at q rank is (λ i apart. none (suc i) (λ (e : suc i ≡ suc at). apart (omega (arith, e))))
 
   -- what one list says is found, where no two say different things
-  pub found_at : (lists : List Rows) (i : ℕ) (q : Leaf) (rank : Rank) → ((j : ℕ) (other : Rank) → says_at says lists j q ≡ Some other → other ≡ rank) → says_at says lists i q ≡ Some rank → found says lists q ≡ Some rank
+  pub found_at : (lists : List ListRows) (i : ℕ) (q : Leaf) (rank : Rank) → ((j : ℕ) (other : Rank) → says_at says lists j q ≡ Some other → other ≡ rank) → says_at says lists i q ≡ Some rank → first_told says lists q ≡ Some rank
   found_at [] i q rank one is = let clash : None ≡ Some rank = sym (said_beyond i q) ∙ is in absurd cc
-  found_at (rows ∷ more) zero q rank one is = ap (λ (o : Option Rank). option_or o (found says more q)) is
+  found_at (rows ∷ more) zero q rank one is = ap (λ (o : Option Rank). option_or o (first_told says more q)) is
   found_at (rows ∷ more) (suc i) q rank one is = go (found_at more i q rank (λ j other its. one (suc j) other its) is) (said says (entry_at rows q)) refl
     where
-      go : found says more q ≡ Some rank → (o : Option Rank) → said says (entry_at rows q) ≡ o → option_or (said says (entry_at rows q)) (found says more q) ≡ Some rank
-      go rest None none = ap (λ (o : Option Rank). option_or o (found says more q)) none ∙ rest
-      go rest (Some other) its = ap (λ (o : Option Rank). option_or o (found says more q)) its ∙ ap Some (one zero other its)
+      go : first_told says more q ≡ Some rank → (o : Option Rank) → said says (entry_at rows q) ≡ o → option_or (said says (entry_at rows q)) (first_told says more q) ≡ Some rank
+      go rest None none = ap (λ (o : Option Rank). option_or o (first_told says more q)) none ∙ rest
+      go rest (Some other) its = ap (λ (o : Option Rank). option_or o (first_told says more q)) its ∙ ap Some (one zero other its)
 
-  pub some_at : (lists : List Rows) (q : Leaf) (rank : Rank) → found says lists q ≡ Some rank → (i : ℕ) × (i < length lists) × (says_at says lists i q ≡ Some rank)
+  pub some_at : (lists : List ListRows) (q : Leaf) (rank : Rank) → first_told says lists q ≡ Some rank → (i : ℕ) × (i < length lists) × (says_at says lists i q ≡ Some rank)
   some_at [] q rank is = let clash : None ≡ Some rank = is in absurd cc
   some_at (rows ∷ more) q rank is = go (some_at more q rank) (said says (entry_at rows q)) refl
     where
-      go : (found says more q ≡ Some rank → (i : ℕ) × (i < length more) × (says_at says more i q ≡ Some rank)) → (o : Option Rank) → said says (entry_at rows q) ≡ o
+      go : (first_told says more q ≡ Some rank → (i : ℕ) × (i < length more) × (says_at says more i q ≡ Some rank)) → (o : Option Rank) → said says (entry_at rows q) ≡ o
           → (i : ℕ) × (i < length (rows ∷ more)) × (says_at says (rows ∷ more) i q ≡ Some rank)
       go rest None none =
-          let later = rest (sym (ap (λ (o : Option Rank). option_or o (found says more q)) none) ∙ is) in
+          let later = rest (sym (ap (λ (o : Option Rank). option_or o (first_told says more q)) none) ∙ is) in
           (suc later.0, omega (arith, later.1), later.2)
-      go rest (Some other) its = (zero, omega arith, its ∙ sym (ap (λ (o : Option Rank). option_or o (found says more q)) its) ∙ is)
+      go rest (Some other) its = (zero, omega arith, its ∙ sym (ap (λ (o : Option Rank). option_or o (first_told says more q)) its) ∙ is)
 
   -- ---- changes
 
-  module _ (now old : List Rows) where
+  module _ (now old : List ListRows) where
     pub told_same : ((i : ℕ) (q : Leaf) → says_at says now i q ≡ says_at says old i q) → told says now ≡ told says old
     told_same same = same_map leaf-total leaf-exact _ _ (λ q. get_told now q ∙ found_same now old q (λ i. same i q) ∙ sym (get_told old q))
 
@@ -113,7 +113,7 @@ module _ (says : Entry → Option Rank) where
       pub told_set : (home : ℕ) (rank : Rank) → ((i : ℕ) → says_at says now i leaf ≡ cond (i == home) (Some rank) None) → told says now ≡ map.insert (told says old) leaf rank
       told_set home rank here = same_map leaf-total leaf-exact _ _ each
         where
-          is : found says now leaf ≡ Some rank
+          is : first_told says now leaf ≡ Some rank
           is =
               only_at now home leaf rank (here home ∙ ap (λ b. cond b (Some rank) None) (is_same home home refl))
               (λ i apart. here i ∙ ap (λ b. cond b (Some rank) None) (is_apart i home apart))

@@ -33,7 +33,7 @@ pub record HasAuthority (roots : Roots) (homes : Homes) (covers : Covers) (leaf 
   pub ranked : map.get roots root ≡ Some rank
 
 -- a hash falls in a directory that stands: this leaf is the one that it picks, and this rank the leaf's authority
-pub record IsLocated (roots : Roots) (homes : Homes) (covers : Covers) (dir : Ino) (hash : ℕ) (frag : Fragment)
+pub record LocatesLeaf (roots : Roots) (homes : Homes) (covers : Covers) (dir : Ino) (hash : ℕ) (frag : Fragment)
     (rank : Rank) : Type 0 where
   pub known : is_known homes dir.0 ≡ true
   pub pick : IsPick (leaves_of covers dir.0) hash frag

@@ -16,8 +16,8 @@ pub record Subtrees : Type 0 where
   pub room : ℕ
 
 -- the leaf that a fragment of a directory is
-abbrev pub leaf_of : ℕ → Fragment → Leaf
-leaf_of d f = (record { 0 = d }, f)
+abbrev pub leaf_in_dir : ℕ → Fragment → Leaf
+leaf_in_dir d f = (record { 0 = d }, f)
 
 -- a leaf was made a root: every leaf has it as its nearest root now, or the one that it had
 abbrev pub IsCutOff : Roots → Roots → Leaf → Type 0
@@ -34,8 +34,8 @@ pub record IsHanded (old new : Roots) (root : Leaf) (rank : Rank) : Type 0 where
 
 -- those of the leaves of d without a rank got this one, and nothing else changed
 pub record AreFilled (old new : Roots) (d : ℕ) (leaves : List Fragment) (rank : Rank) : Type 0 where
-  pub absent : (f : Fragment) → HasLeaf leaves f → map.get old (leaf_of d f) ≡ None
-      → map.get new (leaf_of d f) ≡ Some rank
+  pub absent : (f : Fragment) → HasLeaf leaves f → map.get old (leaf_in_dir d f) ≡ None
+      → map.get new (leaf_in_dir d f) ≡ Some rank
   pub there : (leaf : Leaf) → IsSome (map.get old leaf) → map.get new leaf ≡ map.get old leaf
   pub elsewhere : (leaf : Leaf) → leaf.0.0 ≢ d → map.get new leaf ≡ map.get old leaf
   pub made : (leaf : Leaf) → map.get old leaf ≡ None → IsSome (map.get new leaf) → (leaf.0.0 ≡ d)
@@ -70,19 +70,19 @@ DropsSoundly old new d =
 -- a leaf f of d is split by nb bits: where it was a root its children are roots of its rank, and it is none; nothing
 -- else changes
 pub record IsRootSplit (old new : Roots) (d : ℕ) (f : Fragment) (nb : ℕ) : Type 0 where
-  pub children : (g : Fragment) → IsChild f nb g → IsSome (map.get old (leaf_of d f))
-      → map.get new (leaf_of d g) ≡ map.get old (leaf_of d f)
-  pub gone : map.get new (leaf_of d f) ≡ None
-  pub others : (leaf : Leaf) → leaf ≢ leaf_of d f → ((g : Fragment) → IsChild f nb g → leaf ≢ leaf_of d g)
+  pub children : (g : Fragment) → IsChild f nb g → IsSome (map.get old (leaf_in_dir d f))
+      → map.get new (leaf_in_dir d g) ≡ map.get old (leaf_in_dir d f)
+  pub gone : map.get new (leaf_in_dir d f) ≡ None
+  pub others : (leaf : Leaf) → leaf ≢ leaf_in_dir d f → ((g : Fragment) → IsChild f nb g → leaf ≢ leaf_in_dir d g)
       → map.get new leaf ≡ map.get old leaf
   pub made : (leaf : Leaf) → IsSome (map.get new leaf) → IsSome (map.get old leaf)
-      ⊎ (IsSome (map.get old (leaf_of d f)) × ((g : Fragment) × IsChild f nb g × (leaf ≡ leaf_of d g)))
+      ⊎ (IsSome (map.get old (leaf_in_dir d f)) × ((g : Fragment) × IsChild f nb g × (leaf ≡ leaf_in_dir d g)))
 
 -- what a leaf becomes at a split: each of the children where it is the one that is split, otherwise itself
 abbrev pub BecomesSplit : ℕ → Fragment → ℕ → Leaf → Leaf → Type 0
 BecomesSplit d f nb leaf after =
-    ((leaf ≢ leaf_of d f) × (after ≡ leaf))
-    ⊎ ((leaf ≡ leaf_of d f) × ((g : Fragment) × IsChild f nb g × (after ≡ leaf_of d g)))
+    ((leaf ≢ leaf_in_dir d f) × (after ≡ leaf))
+    ⊎ ((leaf ≡ leaf_in_dir d f) × ((g : Fragment) × IsChild f nb g × (after ≡ leaf_in_dir d g)))
 
 -- where the directory gets the leaves that the split makes, all leaves keep their authority, and the children have that
 -- of the leaf
@@ -101,15 +101,15 @@ is_inside d f leaf = (leaf.0.0 == d) && lies_inside f leaf.1
 -- of them; nothing else changes
 pub record IsRootMerge (old new : Roots) (d : ℕ) (f : Fragment) : Type 0 where
   pub gone : (leaf : Leaf) → is_inside d f leaf ≡ true → map.get new leaf ≡ None
-  pub others : (leaf : Leaf) → is_inside d f leaf ≡ false → leaf ≢ leaf_of d f → map.get new leaf ≡ map.get old leaf
-  pub some : (leaf : Leaf) → is_inside d f leaf ≡ true → IsSome (map.get old leaf) → IsSome (map.get new (leaf_of d f))
-  pub rank : (rank : Rank) → map.get new (leaf_of d f) ≡ Some rank → (leaf : Leaf)
-      × ((leaf ≡ leaf_of d f) ⊎ (is_inside d f leaf ≡ true)) × (map.get old leaf ≡ Some rank)
+  pub others : (leaf : Leaf) → is_inside d f leaf ≡ false → leaf ≢ leaf_in_dir d f → map.get new leaf ≡ map.get old leaf
+  pub some : (leaf : Leaf) → is_inside d f leaf ≡ true → IsSome (map.get old leaf) → IsSome (map.get new (leaf_in_dir d f))
+  pub rank : (rank : Rank) → map.get new (leaf_in_dir d f) ≡ Some rank → (leaf : Leaf)
+      × ((leaf ≡ leaf_in_dir d f) ⊎ (is_inside d f leaf ≡ true)) × (map.get old leaf ≡ Some rank)
 
 -- what a leaf becomes at a merge: the merged leaf where it is one of those that are merged, otherwise itself
 abbrev pub BecomesMerged : ℕ → Fragment → Leaf → Leaf → Type 0
 BecomesMerged d f leaf after =
-    ((is_inside d f leaf ≡ false) × (after ≡ leaf)) ⊎ ((is_inside d f leaf ≡ true) × (after ≡ leaf_of d f))
+    ((is_inside d f leaf ≡ false) × (after ≡ leaf)) ⊎ ((is_inside d f leaf ≡ true) × (after ≡ leaf_in_dir d f))
 
 -- the leaves of d inside f have one authority
 abbrev pub HaveOneAuthority : Roots → Homes → Covers → ℕ → Fragment → Type 0

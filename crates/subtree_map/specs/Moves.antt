@@ -25,7 +25,7 @@ IsLostRank roots homes covers d home (Some rank) =
 
 -- before a directory moves: those of its leaves that inherit, and would inherit another rank at the new place, become
 -- roots of the rank that they have; no other root changes
-pub record IsSettled (old new : Roots) (homes : Homes) (covers : Covers) (d : ℕ) (home : Home) : Type 0 where
+pub record KeepsRanksOf (old new : Roots) (homes : Homes) (covers : Covers) (d : ℕ) (home : Home) : Type 0 where
   pub elsewhere : (leaf : Leaf) → leaf.0.0 ≢ d → map.get new leaf ≡ map.get old leaf
   pub kept : (leaf : Leaf) → IsSome (map.get old leaf) → map.get new leaf ≡ map.get old leaf
   pub made : (leaf : Leaf) → IsSome (map.get new leaf) → IsSome (map.get old leaf) ⊎ IsLive homes covers leaf

@@ -9,7 +9,7 @@ use Rattle.mds_types.specs.declared.ids.Rank.{Rank}
 use Rattle.mds_types.specs.Frag.{Fragment, child_of}
 use Rattle.mds_types.specs.Leaf.{Leaf, leaf_cmp}
 use Rattle.subtree_map.specs.Authority.{Roots}
-use Rattle.subtree_map.specs.Changes.{leaf_of, is_inside}
+use Rattle.subtree_map.specs.Changes.{leaf_in_dir, is_inside}
 
 -- the first leaf that passes a test of those that have a rank
 abbrev pub IsFirstBy : (Leaf → Option Rank) → (Leaf → Bool) → Option Leaf → Type 0
@@ -49,11 +49,11 @@ lesser_of leaf (Some other) = lesser_leaf leaf other
 
 -- the first so many children of f by nb bits have this rank, and each other leaf what it had
 pub record AreChildrenSet (old new : Roots) (d : ℕ) (f : Fragment) (nb count : ℕ) (rank : Rank) : Type 0 where
-  pub children : (i : ℕ) → i < count → map.get new (leaf_of d (child_of f i nb)) ≡ Some rank
-  pub others : (leaf : Leaf) → ((i : ℕ) → i < count → leaf ≢ leaf_of d (child_of f i nb))
+  pub children : (i : ℕ) → i < count → map.get new (leaf_in_dir d (child_of f i nb)) ≡ Some rank
+  pub others : (leaf : Leaf) → ((i : ℕ) → i < count → leaf ≢ leaf_in_dir d (child_of f i nb))
       → map.get new leaf ≡ map.get old leaf
   pub made : (leaf : Leaf) → IsSome (map.get new leaf) → IsSome (map.get old leaf)
-      ⊎ ((i : ℕ) × (i < count) × (leaf ≡ leaf_of d (child_of f i nb)))
+      ⊎ ((i : ℕ) × (i < count) × (leaf ≡ leaf_in_dir d (child_of f i nb)))
 
 -- the roots of d inside f are taken out, with the rank of one of them; without any nothing changes
 abbrev pub AreTakenOut : Roots → Roots → ℕ → Fragment → Option Rank → Type 0

@@ -4,7 +4,7 @@ ghost use Rattle.std.specs.Option.{option_copied};
 ghost use Rattle.std.specs.FinMap as map;
 ghost use Rattle.mds_types.specs.Leaf.{Leaf};
 ghost use Rattle.inode_table.specs.Dirs.{IsLive, is_known};
-ghost use Rattle.subtree_map.specs.Authority.{HasAuthority, HoldsDentry, IsLocated, IsSubtrees, NearestRoot};
+ghost use Rattle.subtree_map.specs.Authority.{HasAuthority, HoldsDentry, LocatesLeaf, IsSubtrees, NearestRoot};
 ghost use Rattle.mds_types.specs.declared.ids.Rank.{Rank as RankNumber};
 ghost use Rattle.subtree_map.specs.Climb.{FindsAbove, FindsRow, IsTop};
 
@@ -98,7 +98,7 @@ impl Subtrees {
     pub fn locate(&self, dirs: &Dirs, dir: Ino, hash: u32) -> Option<(Frag, Rank)>
         requires valid { IsSubtrees self.now.roots dirs.now.homes dirs.now.trees }
         ensures { MatchOption result (is_known dirs.now.homes dir.0 ≡ false)
-            (λ at. IsLocated self.now.roots dirs.now.homes dirs.now.trees dir hash at.0 at.1) }
+            (λ at. LocatesLeaf self.now.roots dirs.now.homes dirs.now.trees dir hash at.0 at.1) }
     {
         let Some(at) = dirs.leaf_at(dir, hash) else {
             return None;

@@ -1,6 +1,6 @@
 //! What a rank's list says of a leaf, and what it says once it has heard news of it.
 ghost use Rattle.std.specs.Prelude.{◌≡◌};
-ghost use Rattle.subtree_map.specs.Lists.{claimed, demoted, entry_of, heard, known_after, knows, learnt, promised_after, row_of};
+ghost use Rattle.subtree_map.specs.Lists.{claimed, demoted, entry_or_nothing, heard, known_after, knows, learnt, promised_after, row_if_told};
 
 use mds_types::Rank;
 
@@ -82,7 +82,7 @@ pub(crate) fn claimed(entry: &Entry) -> Option<Rank>
 
 // A list without a row for a leaf says nothing of it.
 fn entry_of(row: Option<Entry>) -> Entry
-    ensures { result ≡ entry_of row }
+    ensures { result ≡ entry_or_nothing row }
 {
     match row {
         Some(entry) => entry,
@@ -95,7 +95,7 @@ fn entry_of(row: Option<Entry>) -> Entry
 
 // A row that says nothing isn't kept.
 fn row_of(entry: Entry) -> Option<Entry>
-    ensures { result ≡ row_of entry }
+    ensures { result ≡ row_if_told entry }
 {
     match entry.known {
         Known::Nothing => match entry.promised {

@@ -2,7 +2,7 @@
 ghost use Rattle.std.specs.Prelude.{◌≡◌, ◌<◌, false, length, None, Some, OnOk, OnErr, IfSome, MatchOption, IsSome};
 ghost use Rattle.sorted_map.specs.SortedMap.{contents, is_from};
 ghost use Rattle.mds_types.specs.Leaf.{Leaf, leaf_cmp};
-ghost use Rattle.subtree_map.specs.Lists.{AreEach, Corrects, IsCorrected, HasDropped, HasGrown, HasHints, HasSame, claimed, corrected, entry_at, found, home_of};
+ghost use Rattle.subtree_map.specs.Lists.{AreEach, Corrects, IsCorrected, HasDropped, HasGrown, HasHints, HasSame, claimed, corrected, entry_at, first_told, home_of};
 ghost use Rattle.mds_types.specs.declared.ids.Rank.{Rank as RankNumber};
 ghost use Rattle.subtree_map.specs.declared.entries.Known.TheVariants.{Hint};
 ghost use Rattle.subtree_map.specs.Rows.{IsFirstRow};
@@ -45,7 +45,7 @@ fn drop_rows(rows: &mut Rows, dir: Ino)
 
 /// Whether one of the lists has a row of a directory: none claims a leaf of it where none has.
 pub(crate) fn has_rows(lists: &[Rows], dir: Ino) -> bool
-    ensures { result ≡ false → (leaf : Leaf) → leaf.0.0 ≡ dir.0 → found claimed lists.now leaf ≡ None }
+    ensures { result ≡ false → (leaf : Leaf) → leaf.0.0 ≡ dir.0 → first_told claimed lists.now leaf ≡ None }
 {
     for rows in lists {
         if first_row(rows, dir).is_some() {

@@ -4,7 +4,7 @@ ghost use Rattle.std.specs.Option.{option_or};
 ghost use Rattle.std.specs.FinMap.{find, is_sorted};
 ghost use Rattle.mds_types.specs.Leaf.{Leaf, leaf_cmp};
 ghost use Rattle.mds_types.specs.declared.ids.Rank.{Rank as RankNumber};
-ghost use Rattle.subtree_map.specs.Lists.{claimed, entry_at, found, is_after, said};
+ghost use Rattle.subtree_map.specs.Lists.{claimed, entry_at, first_told, is_leaf_after, said};
 ghost use Rattle.subtree_map.specs.Rows.{IsFirstBy, lesser_leaf, lesser_of};
 
 use crate::entries::{Entry, claimed};
@@ -14,7 +14,7 @@ use sorted_map::Iter;
 
 /// The first leaf behind a leaf, or of all, that one of the lists claims.
 pub(crate) fn first_claim(lists: &[Rows], after: &Option<(Ino, Frag)>) -> Option<(Ino, Frag)>
-    ensures { IsFirstBy (found claimed lists.now) (is_after after.now) result }
+    ensures { IsFirstBy (first_told claimed lists.now) (is_leaf_after after.now) result }
 {
     let mut first = None;
     for i in 0..lists.len() {
@@ -25,7 +25,7 @@ pub(crate) fn first_claim(lists: &[Rows], after: &Option<(Ino, Frag)>) -> Option
 
 // The first leaf behind a leaf, or of all, that a list claims.
 fn first_by(rows: &Rows, after: &Option<(Ino, Frag)>) -> Option<(Ino, Frag)>
-    ensures { IsFirstBy (λ leaf. said claimed (entry_at rows.now leaf)) (is_after after.now) result }
+    ensures { IsFirstBy (λ leaf. said claimed (entry_at rows.now leaf)) (is_leaf_after after.now) result }
 {
     let _ = rows.len();
     match after {

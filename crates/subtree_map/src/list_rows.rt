@@ -1,6 +1,6 @@
 //! The rows of one rank's list, and of the lists of all ranks.
 ghost use Rattle.std.specs.Prelude.{◌≡◌, ◌<◌, true, length};
-ghost use Rattle.subtree_map.specs.Lists.{AreEach, HaveRoom, Hears, IsPut, claimed, entry_at, found, heard, home_of, makes, promised, said};
+ghost use Rattle.subtree_map.specs.Lists.{AreEach, HaveRoom, Hears, IsPut, claimed, entry_at, first_told, heard, home_of, adds_row, promised, said};
 
 use crate::entries::{Entry, News, claimed, heard};
 use mds_types::{Frag, Ino, Rank};
@@ -11,7 +11,7 @@ pub(crate) type Rows = SortedMap<(Ino, Frag), Entry>;
 
 /// The rank that claims a leaf: the lists are asked from the first on.
 pub(crate) fn claim_in(lists: &[Rows], leaf: &(Ino, Frag)) -> Option<Rank>
-    ensures { result ≡ found claimed lists.now leaf.now }
+    ensures { result ≡ first_told claimed lists.now leaf.now }
 {
     for rows in lists {
         if let Some(rank) = claim_by(rows, leaf) {
@@ -23,7 +23,7 @@ pub(crate) fn claim_in(lists: &[Rows], leaf: &(Ino, Frag)) -> Option<Rank>
 
 /// The rank that a leaf is promised to.
 pub(crate) fn promise_in(lists: &[Rows], leaf: &(Ino, Frag)) -> Option<Rank>
-    ensures { result ≡ found promised lists.now leaf.now }
+    ensures { result ≡ first_told promised lists.now leaf.now }
 {
     for rows in lists {
         if let Some(rank) = promise_by(rows, leaf) {
@@ -67,7 +67,7 @@ pub(crate) fn tell(lists: &mut [Rows], leaf: (Ino, Frag), home: usize, news: New
 
 // Gives a leaf this row, or none. Where one comes in there has to be room.
 fn put_row(rows: &mut Rows, leaf: (Ino, Frag), row: Option<Entry>)
-    requires { makes (entry_at rows.old leaf) row ≡ true → 0 < rows.old.room }
+    requires { adds_row (entry_at rows.old leaf) row ≡ true → 0 < rows.old.room }
     ensures { IsPut leaf row rows.old rows.new }
 {
     match row {

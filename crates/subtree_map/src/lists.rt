@@ -5,7 +5,7 @@ ghost use Rattle.std.specs.FinMap as map;
 ghost use Rattle.mds_types.specs.Leaf.{Leaf};
 ghost use Rattle.mds_types.specs.declared.refusals.Refusal.TheVariants.{NoMemory};
 ghost use Rattle.subtree_map.specs.Changes.{AreGone};
-ghost use Rattle.subtree_map.specs.Lists.{AreEach, HasGrown, HasHints, HasSame, HaveNone, IsClaimed, home_of, is_after};
+ghost use Rattle.subtree_map.specs.Lists.{AreEach, HasGrown, HasHints, HasSame, HaveNone, IsClaimed, home_of, is_leaf_after};
 ghost use Rattle.subtree_map.specs.Rows.{IsFirst};
 
 use crate::entries::{Known, News};
@@ -92,14 +92,14 @@ impl Lists {
 
     /// The first root.
     pub(crate) fn first(&self) -> Option<(Ino, Frag)>
-        ensures { IsFirst self.now.roots (is_after None) result }
+        ensures { IsFirst self.now.roots (is_leaf_after None) result }
     {
         first_claim(&self.lists, &None)
     }
 
     /// The first root behind a leaf.
     pub(crate) fn first_after(&self, dir: Ino, frag: Frag) -> Option<(Ino, Frag)>
-        ensures { IsFirst self.now.roots (is_after (Some (dir, frag))) result }
+        ensures { IsFirst self.now.roots (is_leaf_after (Some (dir, frag))) result }
     {
         first_claim(&self.lists, &Some((dir, frag)))
     }

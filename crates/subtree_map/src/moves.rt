@@ -5,7 +5,7 @@ ghost use Rattle.inode_table.specs.declared.dirs.Home.{Home};
 ghost use Rattle.inode_table.specs.Dirs.{Covers, Homes, IsTable, MayMove, leaves_of};
 ghost use Rattle.subtree_map.specs.Authority.{IsSubtrees};
 ghost use Rattle.subtree_map.specs.Changes.{AreFilled};
-ghost use Rattle.subtree_map.specs.Moves.{IsLostRank, IsSettled, MovesSoundly};
+ghost use Rattle.subtree_map.specs.Moves.{IsLostRank, KeepsRanksOf, MovesSoundly};
 ghost use Rattle.subtree_map.specs.Rows.{IsFilled};
 
 use crate::lists::Lists;
@@ -24,7 +24,7 @@ impl Subtrees {
         ensures roots { (homes : Homes) (covers : Covers) (home : Home)
             → leaves_of covers dir.0 ≡ leaves_of dirs.now.trees dir.0 → MayMove homes dir.0 home
             → IsLostRank self.old.roots homes covers dir.0 home lost
-            → IsSettled self.old.roots self.new.roots homes covers dir.0 home }
+            → KeepsRanksOf self.old.roots self.new.roots homes covers dir.0 home }
         ensures authority { (homes : Homes) (covers : Covers) (home : Home)
             → leaves_of covers dir.0 ≡ leaves_of dirs.now.trees dir.0 → MayMove homes dir.0 home
             → IsLostRank self.old.roots homes covers dir.0 home lost → IsTable homes covers

@@ -3,7 +3,7 @@ ghost use Rattle.std.specs.Prelude.{◌≡◌, IfOk};
 ghost use Rattle.objstore.specs.Omap.{key_cmp};
 ghost use Rattle.sorted_map.specs.SortedMap.{contents};
 ghost use Rattle.cached_frag.specs.Marks.{patched};
-ghost use Rattle.cached_frag.specs.Cached.{AreEntries, shown};
+ghost use Rattle.cached_frag.specs.Cached.{AreEntries, shown_names};
 
 use crate::marks::Mark;
 use crate::named::fragments::NamedFrag;
@@ -16,7 +16,7 @@ use std::alloc::AllocError;
 impl NamedFrag {
     /// The names that it shows, copied with their inodes. Takes memory for the copies.
     pub(crate) fn copy_names(&self) -> Result<SortedMap<Name, Inode>, AllocError>
-        ensures names { IfOk result (λ names. contents key_cmp names ≡ shown self.now) }
+        ensures names { IfOk result (λ names. contents key_cmp names ≡ shown_names self.now) }
         ensures entries { IfOk result (λ names. AreEntries (contents key_cmp names)) }
     {
         copy_shown(&self.clean, &self.dirty)

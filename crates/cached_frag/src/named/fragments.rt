@@ -6,7 +6,7 @@ ghost use Rattle.sorted_map.specs.SortedMap.{contents};
 ghost use Rattle.dirfrag_codec.specs.EntryRecord.{HasRecord};
 ghost use Rattle.cached_frag.specs.Snap.{counts_of};
 ghost use Rattle.cached_frag.specs.Marks.{inode_or};
-ghost use Rattle.cached_frag.specs.Cached.{imported, is_clean, shown};
+ghost use Rattle.cached_frag.specs.Cached.{imported, is_clean, shown_names};
 ghost use Rattle.cached_frag.specs.Rows.{rows_after, rows_left};
 
 use crate::bases::{Base, EntryCounts};
@@ -39,7 +39,7 @@ impl Model for NamedFrag {
     ghost use Rattle.objstore.specs.Omap.{key_cmp};
     ghost use Rattle.sorted_map.specs.SortedMap.{contents};
     ghost use Rattle.cached_frag.specs.Cached.{Cached};
-    ghost use Rattle.cached_frag.specs.Kept.{IsKept};
+    ghost use Rattle.cached_frag.specs.Kept.{IsCachedWith};
 
     ghost Value = { Cached };
 
@@ -54,7 +54,7 @@ impl Model for NamedFrag {
       places = f.clean.room;
     } };
 
-    ghost invariant = { λ f. IsKept
+    ghost invariant = { λ f. IsCachedWith
         (record {
           base = f.base;
           generation = f.generation;
@@ -112,7 +112,7 @@ impl NamedFrag {
     /// The inode that a name stands for, if it is there. The finger is where the name is among the dirty ones then, or
     /// would go.
     pub(crate) fn look(&self, near: &Cell<Finger>, name: &Name) -> Option<&Inode>
-        ensures found { option_copied result ≡ map.get (shown self.now) name.now }
+        ensures found { option_copied result ≡ map.get (shown_names self.now) name.now }
         ensures recorded { IfSome (option_copied result) HasRecord }
     {
         shown_in(&self.clean, &self.dirty, near, name)
@@ -120,28 +120,28 @@ impl NamedFrag {
 
     /// Whether a name is there.
     pub(crate) fn shows(&self, near: &Finger, name: &Name) -> bool
-        ensures { result ≡ is_some (map.get (shown self.now) name.now) }
+        ensures { result ≡ is_some (map.get (shown_names self.now) name.now) }
     {
         shows_in(&self.clean, &self.dirty, near, name)
     }
 
     /// A record allows what each of its names stands for: a law of the type, so nothing is done.
     pub(crate) fn has_records(&self)
-        ensures { (name : List ℕ) → IfSome (map.get (shown self.now) name) HasRecord }
+        ensures { (name : List ℕ) → IfSome (map.get (shown_names self.now) name) HasRecord }
     {
         let _ = &self.clean;
     }
 
     /// How many entries it shows.
     pub(crate) fn counts(&self) -> EntryCounts
-        ensures { result ≡ counts_of (shown self.now) }
+        ensures { result ≡ counts_of (shown_names self.now) }
     {
         self.counts
     }
 
     /// How many names it shows.
     pub(crate) fn len(&self) -> usize
-        ensures { result ≡ map.len (shown self.now) }
+        ensures { result ≡ map.len (shown_names self.now) }
     {
         (self.counts.files + self.counts.dirs) as usize
     }
@@ -162,7 +162,7 @@ impl NamedFrag {
 
     /// The names that it shows and that are greater than one; all, if none is given.
     pub(crate) fn rows_after(&self, after: Option<&Name>) -> Rows<'_>
-        ensures { rows_left result ≡ rows_after (option_copied after.entry) (map.entries (shown self.now)) }
+        ensures { rows_left result ≡ rows_after (option_copied after.entry) (map.entries (shown_names self.now)) }
     {
         rows_of(&self.clean, &self.dirty, after)
     }

@@ -4,7 +4,7 @@ ghost use Rattle.std.specs.FinMap as map;
 ghost use Rattle.objstore.specs.Omap.{key_cmp};
 ghost use Rattle.sorted_map.specs.SortedMap.{contents};
 ghost use Rattle.cached_frag.specs.Marks.{patched};
-ghost use Rattle.cached_frag.specs.Cached.{AreEntries, shown};
+ghost use Rattle.cached_frag.specs.Cached.{AreEntries, shown_names};
 ghost use Rattle.cached_frag.specs.Moving.{Joins};
 
 use crate::marks::Mark;
@@ -18,7 +18,7 @@ impl NamedFrag {
     /// (`reserve_settled`).
     pub(crate) fn into_names(self) -> SortedMap<Name, Inode>
         requires { map.len self.dirty ≤ self.places }
-        ensures names { contents key_cmp result ≡ shown self }
+        ensures names { contents key_cmp result ≡ shown_names self }
         ensures entries { AreEntries (contents key_cmp result) }
     {
         all_shown(self.clean, self.dirty)

@@ -3,9 +3,9 @@ ghost use Rattle.std.specs.Prelude.{◌≡◌, ◌≤◌, ◌<◌, ◌+◌, ◌�
 ghost use Rattle.std.specs.FinMap as map;
 ghost use Rattle.objstore.specs.Omap.{key_cmp};
 ghost use Rattle.sorted_map.specs.SortedMap.{contents};
-ghost use Rattle.cached_frag.specs.Marks.{AreDirtyNames, patched, with_mark};
-ghost use Rattle.cached_frag.specs.Cached.{AreEntries, shown, unsettled};
-ghost use Rattle.cached_frag.specs.Settling.{IsTaken, settled_one, settled_in};
+ghost use Rattle.cached_frag.specs.Marks.{AreDirtyNames, patched, with_changed_name};
+ghost use Rattle.cached_frag.specs.Cached.{AreEntries, shown_names, unsettled};
+ghost use Rattle.cached_frag.specs.Settling.{IsTakenFrom, settled_one, settled_in};
 
 use crate::bases::Base;
 use crate::dirty_names::DirtyNames;
@@ -35,7 +35,7 @@ impl NamedFrag {
         ensures dirty { self.new.dirty ≡ unsettled self.old.dirty names.now }
         ensures base { self.new.base ≡ Base.Stored version }
         ensures generation { self.new.generation ≡ self.old.generation }
-        ensures shown { shown self.new ≡ shown self.old }
+        ensures shown_names { shown_names self.new ≡ shown_names self.old }
     {
         settle_all(&mut self.clean, &mut self.dirty, names);
         self.base = Base::Stored(version);
@@ -53,7 +53,7 @@ fn settle_all(
     requires entries { AreEntries (contents key_cmp clean.old) }
     requires marks { AreDirtyNames (contents key_cmp dirty.old) }
     ensures dirty { contents key_cmp dirty.new ≡ unsettled (contents key_cmp dirty.old) names.now }
-    ensures shown { patched (contents key_cmp clean.new) (contents key_cmp dirty.new) ≡ patched
+    ensures shown_names { patched (contents key_cmp clean.new) (contents key_cmp dirty.new) ≡ patched
         (contents key_cmp clean.old) (contents key_cmp dirty.old) }
     ensures entries { AreEntries (contents key_cmp clean.new) }
     ensures marks { AreDirtyNames (contents key_cmp dirty.new) }
@@ -91,7 +91,7 @@ fn settle_each(
     requires entries { AreEntries (contents key_cmp clean.old) }
     requires marks { AreDirtyNames (contents key_cmp dirty.old) }
     ensures dirty { contents key_cmp dirty.new ≡ unsettled (contents key_cmp dirty.old) names.now }
-    ensures shown { patched (contents key_cmp clean.new) (contents key_cmp dirty.new) ≡ patched
+    ensures shown_names { patched (contents key_cmp clean.new) (contents key_cmp dirty.new) ≡ patched
         (contents key_cmp clean.old) (contents key_cmp dirty.old) }
     ensures entries { AreEntries (contents key_cmp clean.new) }
     ensures marks { AreDirtyNames (contents key_cmp dirty.new) }
@@ -112,7 +112,7 @@ fn settle_one(
     requires entries { AreEntries (contents key_cmp clean.old) }
     requires marks { AreDirtyNames (contents key_cmp dirty.old) }
     ensures dirty { contents key_cmp dirty.new ≡ settled_one (contents key_cmp dirty.old) name.now version }
-    ensures shown { patched (contents key_cmp clean.new) (contents key_cmp dirty.new) ≡ patched
+    ensures shown_names { patched (contents key_cmp clean.new) (contents key_cmp dirty.new) ≡ patched
         (contents key_cmp clean.old) (contents key_cmp dirty.old) }
     ensures entries { AreEntries (contents key_cmp clean.new) }
     ensures marks { AreDirtyNames (contents key_cmp dirty.new) }
@@ -130,7 +130,7 @@ fn take_settled(
     name: &Name,
     version: u64,
 ) -> Option<(Name, Mark)>
-    ensures { IsTaken (contents key_cmp dirty.old) (contents key_cmp dirty.new) name.now version result }
+    ensures { IsTakenFrom (contents key_cmp dirty.old) (contents key_cmp dirty.new) name.now version result }
 {
     if dirty.get(name)?.version != version {
         return None;
@@ -151,7 +151,7 @@ pub(crate) fn make_clean(clean: &mut SortedMap<Name, Inode>, dirty: SortedMap<Na
 // What became of a name is what is clean now.
 fn put_clean(clean: &mut SortedMap<Name, Inode>, name: Name, inode: Option<Inode>)
     requires { 0 < clean.old.room }
-    ensures put { contents key_cmp clean.new ≡ with_mark (contents key_cmp clean.old) name inode }
+    ensures put { contents key_cmp clean.new ≡ with_changed_name (contents key_cmp clean.old) name inode }
     ensures room { clean.old.room ≤ clean.new.room + 1 }
 {
     match inode {

@@ -3,7 +3,7 @@ ghost use Rattle.std.specs.Prelude.{◌≡◌, ◌<◌, ◌≤◌, ◌+◌, [], 
 ghost use Rattle.std.specs.List.Sorted.{IsSearchInRange};
 ghost use Rattle.std.specs.FinMap.{is_sorted};
 ghost use Rattle.sorted_map.specs.Places.{IsPlace};
-ghost use Rattle.sorted_map.specs.Chunks.{flat, start, AllSome};
+ghost use Rattle.sorted_map.specs.Chunks.{flat, items_before, AllSome};
 ghost use Rattle.sorted_map.specs.Homes.{place_in, starts_above, IsHome};
 
 use crate::chunks::Chunk;
@@ -60,7 +60,7 @@ pub(crate) fn spot_behind<K: Ord, V, Q: Probe<K>>(
     requires some { AllSome chunks.now }
     ensures home { IfSome result (λ s. s.0 < length chunks.now) }
     ensures within { IfSome result (λ s. s.1 ≤ length (slice_index_or chunks.now s.0 [])) }
-    ensures place { IfSome result (λ s. IsPlace K.cmp (Q.key q.now) (flat chunks.now) (Err (start chunks.now s.0 + s.1))) }
+    ensures place { IfSome result (λ s. IsPlace K.cmp (Q.key q.now) (flat chunks.now) (Err (items_before chunks.now s.0 + s.1))) }
 {
     if chunks.is_empty() {
         return None;

@@ -4,7 +4,7 @@ ghost use Rattle.std.specs.FinMap as map;
 ghost use Rattle.std.specs.FinMap.{is_sorted};
 ghost use Rattle.std.specs.FinMap.Entries.{where_key};
 ghost use Rattle.sorted_map.specs.SortedMap.{contents, after, is_from};
-ghost use Rattle.sorted_map.specs.Chunks.{flat, start, total, AllSome};
+ghost use Rattle.sorted_map.specs.Chunks.{flat, items_before, total, AllSome};
 
 use crate::chunked::map::ChunkMap;
 use crate::chunked::places::spot;
@@ -66,7 +66,7 @@ fn pairs_at<'a, K, V>(row: &'a [Chunk<K, V>], home: usize, at: usize) -> Iter<'a
     requires home { 0 < length row.now → home < length row.now }
     requires within { at ≤ length (slice_index_or row.now home []) }
     requires fits { total length row.now < 2 ^ 64 }
-    ensures { result ≡ drop (start row.now home + at) (flat row.now) }
+    ensures { result ≡ drop (items_before row.now home + at) (flat row.now) }
 {
     if row.is_empty() {
         return Iter::of_pairs(&[]);

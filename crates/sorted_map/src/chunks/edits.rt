@@ -1,6 +1,6 @@
 //! Edits of a row of chunks at a place among all its pairs.
 ghost use Rattle.std.specs.Prelude.{◌≡◌, ◌+◌, ◌-◌, ◌<◌, ◌≤◌, ◌∷◌, [], length, slice_index_or, slice_set, insert, remove};
-ghost use Rattle.sorted_map.specs.Chunks.{flat, load, start, room_in, AllSome};
+ghost use Rattle.sorted_map.specs.Chunks.{flat, load, items_before, room_in, AllSome};
 
 use crate::chunks::chunk::{FILLED, HALF, JOINED, MOST};
 use crate::chunks::row::Chunks;
@@ -12,7 +12,7 @@ pub fn put_new<K: Drop, V: Drop>(chunks: &mut Chunks<K, V>, home: usize, at: usi
     requires home { 0 < length chunks.old.lists → home < length chunks.old.lists }
     requires within { at ≤ length (slice_index_or chunks.old.lists home []) }
     requires room { 0 < room_in chunks.old }
-    ensures items { flat chunks.new.lists ≡ insert (flat chunks.old.lists) (start chunks.old.lists home + at) pair }
+    ensures items { flat chunks.new.lists ≡ insert (flat chunks.old.lists) (items_before chunks.old.lists home + at) pair }
     ensures some { AllSome chunks.new.lists }
     ensures room { room_in chunks.old ≤ room_in chunks.new + 1 }
 {
@@ -59,7 +59,7 @@ fn put_behind<K: Drop, V: Drop>(chunks: &mut Chunks<K, V>, home: usize, pair: (K
     requires room { 0 < room_in chunks.old }
     ensures items { flat chunks.new.lists
         ≡ insert (flat chunks.old.lists)
-        (start chunks.old.lists home + length (slice_index_or chunks.old.lists home [])) pair }
+        (items_before chunks.old.lists home + length (slice_index_or chunks.old.lists home [])) pair }
     ensures some { AllSome chunks.new.lists }
     ensures room { room_in chunks.old ≤ room_in chunks.new + 1 }
 {
@@ -75,7 +75,7 @@ fn put_within<K: Drop, V: Drop>(chunks: &mut Chunks<K, V>, home: usize, at: usiz
     requires home { home < length chunks.old.lists }
     requires within { at ≤ length (slice_index_or chunks.old.lists home []) }
     requires few { length (slice_index_or chunks.old.lists home []) < 64 }
-    ensures items { flat chunks.new.lists ≡ insert (flat chunks.old.lists) (start chunks.old.lists home + at) pair }
+    ensures items { flat chunks.new.lists ≡ insert (flat chunks.old.lists) (items_before chunks.old.lists home + at) pair }
     ensures some { AllSome chunks.new.lists }
     ensures room { room_in chunks.old ≤ room_in chunks.new + 1 }
     ensures load { load chunks.new.lists ≤ load chunks.old.lists + 1 }
@@ -92,7 +92,7 @@ fn put_apart<K: Drop, V: Drop>(chunks: &mut Chunks<K, V>, home: usize, at: usize
     requires within { at ≤ 64 }
     requires full { length (slice_index_or chunks.old.lists home []) ≡ 64 }
     requires room { 0 < room_in chunks.old }
-    ensures items { flat chunks.new.lists ≡ insert (flat chunks.old.lists) (start chunks.old.lists home + at) pair }
+    ensures items { flat chunks.new.lists ≡ insert (flat chunks.old.lists) (items_before chunks.old.lists home + at) pair }
     ensures some { AllSome chunks.new.lists }
     ensures room { room_in chunks.old ≤ room_in chunks.new + 1 }
 {
@@ -110,10 +110,10 @@ pub fn put_value<K, V>(chunks: &mut Chunks<K, V>, home: usize, at: usize, value:
     requires home { home < length chunks.old.lists }
     requires within { at < length (slice_index_or chunks.old.lists home []) }
     ensures items { (d : K × V) → flat chunks.new.lists
-        ≡ slice_set (flat chunks.old.lists) (start chunks.old.lists home + at)
-        ((slice_index_or (flat chunks.old.lists) (start chunks.old.lists home + at) d).0, value) }
+        ≡ slice_set (flat chunks.old.lists) (items_before chunks.old.lists home + at)
+        ((slice_index_or (flat chunks.old.lists) (items_before chunks.old.lists home + at) d).0, value) }
     ensures value { (d : K × V)
-        → result ≡ (slice_index_or (flat chunks.old.lists) (start chunks.old.lists home + at) d).1 }
+        → result ≡ (slice_index_or (flat chunks.old.lists) (items_before chunks.old.lists home + at) d).1 }
     ensures some { AllSome chunks.new.lists }
     ensures room { room_in chunks.new ≡ room_in chunks.old }
 {
@@ -126,8 +126,8 @@ pub fn take_out<K: Drop, V: Drop>(chunks: &mut Chunks<K, V>, home: usize, at: us
     requires some { AllSome chunks.old.lists }
     requires home { home < length chunks.old.lists }
     requires within { at < length (slice_index_or chunks.old.lists home []) }
-    ensures value { (d : K × V) → result ≡ slice_index_or (flat chunks.old.lists) (start chunks.old.lists home + at) d }
-    ensures items { flat chunks.new.lists ≡ remove (flat chunks.old.lists) (start chunks.old.lists home + at) }
+    ensures value { (d : K × V) → result ≡ slice_index_or (flat chunks.old.lists) (items_before chunks.old.lists home + at) d }
+    ensures items { flat chunks.new.lists ≡ remove (flat chunks.old.lists) (items_before chunks.old.lists home + at) }
     ensures some { AllSome chunks.new.lists }
     ensures room { room_in chunks.old ≤ room_in chunks.new }
 {

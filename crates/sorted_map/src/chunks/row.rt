@@ -28,7 +28,7 @@ pub struct Chunks<K, V> {
 impl<K, V> Model for Chunks<K, V> {
     ghost use Rattle.std.specs.Prelude.{◌+◌, ◌≤◌, vec_len, vec_capacity};
     ghost use Rattle.std.specs.Coded.{coded×};
-    ghost use Rattle.sorted_map.specs.Chunks.{Chunked, chunked_code, IsCounted};
+    ghost use Rattle.sorted_map.specs.Chunks.{Chunked, chunked_code, AreLengths};
 
     ghost Value = { Chunked (K × V) };
 
@@ -36,7 +36,7 @@ impl<K, V> Model for Chunks<K, V> {
 
     ghost view = { λ c. record { lists = c.row.items; spare = c.ready } };
 
-    ghost invariant = { λ c. IsCounted c.row.items c.len c.extra × (c.ready ≤ vec_len c.spare)
+    ghost invariant = { λ c. AreLengths c.row.items c.len c.extra × (c.ready ≤ vec_len c.spare)
         × (vec_len c.row + vec_len c.spare ≤ vec_capacity c.row)
         × (vec_len c.row + vec_len c.spare ≤ vec_capacity c.spare)
         × (vec_len c.row + vec_len c.spare ≤ 1099511627776) };

@@ -1,4 +1,4 @@
-use Rattle.cold_store.proofs.Common.{Fragment, IsBadLeaf, IsGoodLeaf, List, None, Option, Refusal, Some, arith, object_of, refl, rows_at, subst, sym, with_rows, ◌∙◌, ◌≡◌}
+use Rattle.cold_store.proofs.Common.{Fragment, IsBadLeaf, IsGoodLeaf, List, None, Option, Refusal, Some, arith, object_of, refl, records_at, subst, sym, with_rows, ◌∙◌, ◌≡◌}
 use Rattle.std.proofs.lemmas.List.{drop_all}
 use Rattle.dentry_cache.specs.Calls.{AreCalls, calls_to_load}
 use Rattle.dentry_cache.proofs.CallLaws.{some_not}
@@ -17,7 +17,7 @@ loop-leaf-preserved g c =
     let s = c.loop-leaf.found.shape in
     let t = c.take_leaf.new.found.shape in
     let good = subst (λ o. IsGoodLeaf o s (c.args.dir, f)) inv.same c.in_default.ensures.good in
-    let added = subst (λ o. t ≡ with_rows s (rows_at o (c.args.dir, f))) inv.same c.in_default.ensures.added in
+    let added = subst (λ o. t ≡ with_rows s (records_at o (c.args.dir, f))) inv.same c.in_default.ensures.added in
     let count = c.in_default.ensures.counted in
     record {
       same = c.in_default.ensures.same ∙ inv.same;

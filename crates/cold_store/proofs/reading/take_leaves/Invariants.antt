@@ -1,6 +1,6 @@
 -- The leaves to come are as good or as bad as all of them, and add what all of them add; with the calls
 -- for them those so far are the calls for all.
-use Rattle.cold_store.proofs.Common.{AreGoodLeaves, IsBadAmong, IsReady, ObjName, Option, Refusal, drop, rows_under, with_rows, ◌≡◌}
+use Rattle.cold_store.proofs.Common.{AreGoodLeaves, IsBadAmong, IsMetDir, ObjName, Option, Refusal, drop, rows_under, with_rows, ◌≡◌}
 use Rattle.cold_store.specs.Calls.{AreLeafCalls}
 use Rattle.cold_store.proofs.reading.take_leaves.Given as goal
 
@@ -8,7 +8,7 @@ abbrev pub invariant-loop-leaf : goal.invariant-loop-leaf
 invariant-loop-leaf g l = record {
   same : g.S.Store.objects l.store ≡ g.S.Store.objects l.fn.store;
   counted : g.S.Store.faults l.store ≡ g.S.Store.faults l.fn.store;
-  ready : IsReady l.found.shape l.dir.0;
+  ready : IsMetDir l.found.shape l.dir.0;
   covers : l.found.covers ≡ l.fn.found.covers;
   good : AreGoodLeaves (g.S.Store.objects l.fn.store) l.found.shape l.dir (drop l.leaf-index l.leaves) → AreGoodLeaves (g.S.Store.objects l.fn.store) l.fn.found.shape l.dir l.fn.leaves;
   bad : (name : ObjName) → IsBadAmong (g.S.Store.objects l.fn.store) l.found.shape l.dir (drop l.leaf-index l.leaves) name → IsBadAmong (g.S.Store.objects l.fn.store) l.fn.found.shape l.dir l.fn.leaves name;

@@ -1,4 +1,4 @@
-use Rattle.cold_store.proofs.Common.{contents, key_cmp, texts_from, without_keys, ◌∙◌}
+use Rattle.cold_store.proofs.Common.{contents, key_cmp, texts_from, keys_without, ◌∙◌}
 use Rattle.std.proofs.lemmas.Result.{err_from_is_err_and}
 use Rattle.cold_store.proofs.Common.{NoMemory, None, Some}
 use Rattle.cold_store.specs.Calls.{name_pages}
@@ -9,7 +9,7 @@ use Rattle.cold_store.proofs.remaining.list_left.Goals as goal
 pub returns-clause-left : goal.returns-clause-left
 returns-clause-left g c =
     are_left (g.S.Store.objects c.args.store.now) (contents key_cmp c.in_ok-left.left) (contents key_cmp c.take_off.new.left) (texts_from c.args.found.now.covers c.args.found.now.shape.queue) c.in_ok-left.ensures.named
-    (c.in_ok-take_off.ensures ∙ (λ i. without_keys (contents key_cmp c.in_ok-left.left) (texts_from (c.dirs.ensures.trees i) (c.queue.ensures i))))
+    (c.in_ok-take_off.ensures ∙ (λ i. keys_without (contents key_cmp c.in_ok-left.left) (texts_from (c.dirs.ensures.trees i) (c.queue.ensures i))))
 
 pub returns-in_err-take_off-clause-called : goal.returns-in_err-take_off-clause-called
 returns-in_err-take_off-clause-called g c =

@@ -1,4 +1,4 @@
-use Rattle.dentry_cache.proofs.Common.{Rise, ap, arith, is_in, subst, sym, ◌∙◌}
+use Rattle.dentry_cache.proofs.Common.{Rise, ap, arith, is_leaf_in, subst, sym, ◌∙◌}
 use Rattle.dentry_cache.proofs.LeafSetLaws.{in_gap, put_again, put_in, put_rises}
 use Rattle.dentry_cache.proofs.leaf_set.put.Goals as goal
 
@@ -16,4 +16,4 @@ returns-in-Err-clause-rise c =
 
 pub returns-in-Err-clause-each : goal.returns-in-Err-clause-each
 returns-in-Err-clause-each c =
-    λ q. ap (is_in q) c.put_at.ensures.items ∙ put_in q c.args.leaf.now c.args.leaves.now.items c.in-Err.at (rw c.deref.ensures.value at c.in-Err.ensures.spot)
+    λ q. ap (is_leaf_in q) c.put_at.ensures.items ∙ put_in q c.args.leaf.now c.args.leaves.now.items c.in-Err.at (rw c.deref.ensures.value at c.in-Err.ensures.spot)

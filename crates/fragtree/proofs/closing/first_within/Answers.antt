@@ -1,10 +1,10 @@
 -- What is split within a fragment stands from it on, before what begins behind its end.
-use Rattle.fragtree.proofs.Common.{Bool, ContainsFragment, Fragment, IfNone, IfSome, IsFragment, IsSome, List, None, Splits, [], ap, arith, contents, false, frag_cmp, is_from, is_some, leb, nat_tests, refl, span, sym, then_some, true, where_key, ℕ, ◌+◌, ◌<◌, ◌∙◌, ◌∷◌, ◌≡◌, ◌≤◌}
+use Rattle.fragtree.proofs.Common.{Bool, ContainsFragment, Fragment, IfNone, IfSome, IsFragment, IsSome, List, None, FragSplits, [], ap, arith, contents, false, frag_cmp, is_from, is_some, leb, nat_tests, refl, span, sym, then_some, true, where_key, ℕ, ◌+◌, ◌<◌, ◌∙◌, ◌∷◌, ◌≡◌, ◌≤◌}
 use Rattle.std.specs.FinMap as map
 use Rattle.fragtree.proofs.FirstKeys.{from_found, first_split, none_before, within_from, from_within}
 use Rattle.fragtree.proofs.closing.first_within.Goals as goal
 
-module _ (m : Splits) (f : Fragment) (whole : IsFragment f) (last : ℕ) (ends : last + 1 ≡ f.value + span f.bits) (e : Fragment × ℕ) (rest : List (Fragment × ℕ)) (is : where_key frag_cmp (is_from frag_cmp f) (map.entries m) ≡ e ∷ rest) where
+module _ (m : FragSplits) (f : Fragment) (whole : IsFragment f) (last : ℕ) (ends : last + 1 ≡ f.value + span f.bits) (e : Fragment × ℕ) (rest : List (Fragment × ℕ)) (is : where_key frag_cmp (is_from frag_cmp f) (map.entries m) ≡ e ∷ rest) where
   first_behind : (b : Bool) → leb e.0.value last ≡ b → IfNone (then_some b e.0) ((g : Fragment) → IsFragment g → ContainsFragment f g → map.get m g ≡ None)
   first_behind true test = tt
   first_behind false test = λ g fragment within.

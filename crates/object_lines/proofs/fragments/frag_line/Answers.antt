@@ -1,4 +1,4 @@
-use Rattle.object_lines.proofs.Common.{List, SpellsHeader, ap, counted, false, refl, subst, sym, true, ℕ, ◌∙◌, ◌≡◌}
+use Rattle.object_lines.proofs.Common.{List, SpellsHeader, ap, counted_header, false, refl, subst, sym, true, ℕ, ◌∙◌, ◌≡◌}
 use Rattle.object_lines.proofs.ObjectLaws.{no_header, shows_fragment, shows_none}
 use Rattle.object_lines.proofs.fragments.frag_line.Goals as goal
 
@@ -13,4 +13,4 @@ returns-then-not-has_counts-clause-line c =
 pub returns-clause-line : goal.returns-clause-line
 returns-clause-line c =
     shows_fragment c.args.object.now c.in-Some.header (subst (λ (b : List ℕ). SpellsHeader b c.in-Some.header) (c.as_slice.ensures ∙ c.header.ensures) c.in-Some.ensures.spelled) c.in_ok-pairs.pairs.items c.in_ok-pairs.ensures
-    c.in_ok-keys_of.field-0 (ap (counted c.in-Some.header.version) (sym c.deref.ensures.value) ∙ sym c.in_ok-counted.ensures ∙ c.if-not-has_counts.ensures.0 refl) c.in_ok-keys_of.ensures
+    c.in_ok-keys_of.field-0 (ap (counted_header c.in-Some.header.version) (sym c.deref.ensures.value) ∙ sym c.in_ok-counted.ensures ∙ c.if-not-has_counts.ensures.0 refl) c.in_ok-keys_of.ensures

@@ -1,7 +1,7 @@
 use Rattle.std.proofs.Common.{◌≡◌, List, IsSome}
 use Rattle.sqlite_value.specs.Order.{Row}
 use Rattle.sqlite_trees.specs.View.{IsClean, IsQuiet, KeepsSchema}
-use Rattle.object_tables.specs.Reading.{Reads}
+use Rattle.object_tables.specs.Reading.{HasRowsLeft}
 use Rattle.object_tables.specs.Sessions.{SpellsRows}
 use Rattle.object_tables.proofs.sessions.read_rows.Given as goal
 
@@ -10,7 +10,7 @@ abbrev pub invariant-rows : goal.invariant-rows
 invariant-rows g l =
     let old = g.T.Store.view l.fn.trees in
     let now = g.T.Store.view l.trees in
-    (IsClean now → (seen : List Row) × Reads now 2 seen × SpellsRows seen l.found)
+    (IsClean now → (seen : List Row) × HasRowsLeft now 2 seen × SpellsRows seen l.found)
     × (IsClean now → now ≡ record old { cursors = now.cursors })
     × IsSome (now.cursors 0)
     × IsQuiet g.T.Store.view g.T.Store.faults g.T.Store.recovers g.T.Store.is_shielded l.fn.trees l.trees

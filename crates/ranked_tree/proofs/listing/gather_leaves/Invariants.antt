@@ -1,5 +1,5 @@
 -- The names of the leaves so far are in the page, and reads keep the state and whose the places are.
-use Rattle.ranked_tree.proofs.Common.{Fragment, IsOwned, IsPageOf, KeepsState, List, None, ReadsDir, Row, rows_gathered, held_in, leaves_of, names_of, option_copied, unclean, ◌≡◌}
+use Rattle.ranked_tree.proofs.Common.{Fragment, IsOwned, IsPageOf, KeepsState, List, None, ReadsDir, NamedInode, rows_gathered, held_in, leaves_of, names_of, option_copied, unclean, ◌≡◌}
 use Rattle.ranked_tree.proofs.WalkLaws.{AreWithin}
 use Rattle.ranked_tree.proofs.listing.gather_leaves.Given as goal
 
@@ -10,8 +10,8 @@ invariant-loop-frag g l = record {
   owned : IsOwned l.tree (held_in l.regions);
   within : AreWithin l.frag-iterator (leaves_of l.fn.tree.covers l.dir.0);
   most : l.page.most ≡ l.fn.page.most;
-  page : (whole : List Row) → IsPageOf whole l.fn.page
-      → (now : List Row) × IsPageOf now l.page
+  page : (whole : List NamedInode) → IsPageOf whole l.fn.page
+      → (now : List NamedInode) × IsPageOf now l.page
       × (rows_gathered (λ (f : Fragment). names_of (unclean l.fn.tree.caches) l.fn.tree.objects (l.dir, f)) (option_copied l.after) now l.frag-iterator
       ≡ rows_gathered (λ (f : Fragment). names_of (unclean l.fn.tree.caches) l.fn.tree.objects (l.dir, f)) (option_copied l.after) whole (leaves_of l.fn.tree.covers l.dir.0));
 }

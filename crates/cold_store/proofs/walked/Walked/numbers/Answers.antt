@@ -1,4 +1,4 @@
-use Rattle.cold_store.proofs.Common.{IsNext, ap, arith, contents, dentry_cmp, end_number, first_number, passed, passed_all, subst, sym, ◌∙◌, ◌≡◌, ◌≤◌}
+use Rattle.cold_store.proofs.Common.{IsNextNumber, ap, arith, contents, dentry_cmp, end_number, first_number, passed, passed_all, subst, sym, ◌∙◌, ◌≡◌, ◌≤◌}
 use Rattle.cold_store.proofs.NumberLaws.{is_next, passes, stays_within}
 use Rattle.cold_store.proofs.walked.Walked.numbers.Goals as goal
 
@@ -25,6 +25,6 @@ loop-next-preserved c =
 pub returns-clause-next : goal.returns-clause-next
 returns-clause-next c =
     let inv = c.loop-next.invariant in
-    subst (IsNext (contents dentry_cmp c.args.self.now.entries)) (sym c.from.ensures)
+    subst (IsNextNumber (contents dentry_cmp c.args.self.now.entries)) (sym c.from.ensures)
     (is_next (contents dentry_cmp c.args.self.now.entries) (record { rank = c.args.rank.0; next = c.loop-next.next })
     (sym (ap (passed_all c.loop-next.next (end_number c.args.rank.0)) c.in_default.ensures.steps.0) ∙ inv.whole))

@@ -1,4 +1,4 @@
-use Rattle.dentry_cache.proofs.Common.{Cached, HasCached, Held, Option, Some, ap, cached, fragment_in, leaf_is, on_ok_weaker, option_copied_mut, refl, shown, subst, sym, ◌∙◌, ◌≡◌, ◌≤◌}
+use Rattle.dentry_cache.proofs.Common.{Cached, HasCached, Held, Option, Some, ap, cached, fragment_in, leaf_is, on_ok_weaker, option_copied_mut, refl, shown_names, subst, sym, ◌∙◌, ◌≡◌, ◌≤◌}
 use Rattle.std.specs.Map.{lookup}
 use Rattle.dentry_cache.specs.declared.cache.Place.{Place}
 use Rattle.dentry_cache.proofs.SlotLaws.{cached_in}
@@ -26,4 +26,4 @@ returns-clause-ready c = λ has.
 pub invariant_of-self-2 : goal.invariant_of-self-2
 invariant_of-self-2 c =
     told_value (c.args.dir, c.args.frag) c.self.inside.places.entries c.in-Some.place.now _ c.self.inside.candidates c.self.invariant (ap option_copied_mut (sym c.in-Some.is) ∙ c.peek_mut.ensures.value)
-    (same_size c.in-Some.place.now c.reserve.new.self (ap shown c.reserve.ensures.same))
+    (same_size c.in-Some.place.now c.reserve.new.self (ap shown_names c.reserve.ensures.same))

@@ -1,4 +1,4 @@
-use Rattle.dentry_cache.proofs.Common.{Cached, ap, cached, on_ok_weaker, option_copied_mut, refl, shown, sym, ◌∙◌, ◌≤◌}
+use Rattle.dentry_cache.proofs.Common.{Cached, ap, cached, on_ok_weaker, option_copied_mut, refl, shown_names, sym, ◌∙◌, ◌≤◌}
 use Rattle.dentry_cache.proofs.CommitSteps.{OnlyPlaces}
 use Rattle.dentry_cache.proofs.EditLaws.{written, written_now}
 use Rattle.dentry_cache.proofs.CandidateSteps.{same_size, told_value}
@@ -19,4 +19,4 @@ returns-clause-room c =
 pub invariant_of-self-2 : goal.invariant_of-self-2
 invariant_of-self-2 c =
     told_value (c.args.dir, c.args.frag) c.self.inside.places.entries c.in-Some.place.now _ c.self.inside.candidates c.self.invariant (ap option_copied_mut (sym c.in-Some.is) ∙ c.peek_mut.ensures.value)
-    (same_size c.in-Some.place.now c.reserve_settled.new.self (ap shown c.reserve_settled.ensures.same))
+    (same_size c.in-Some.place.now c.reserve_settled.new.self (ap shown_names c.reserve_settled.ensures.same))

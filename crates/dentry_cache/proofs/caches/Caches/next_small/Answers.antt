@@ -1,8 +1,8 @@
-use Rattle.dentry_cache.proofs.Common.{IsNext, IsSmallIn, Sizes, size_in, subst}
+use Rattle.dentry_cache.proofs.Common.{IsNextLeaf, IsSmallIn, Sizes, size_in, subst}
 use Rattle.dentry_cache.proofs.MapCalls.{cached_is}
 use Rattle.dentry_cache.proofs.caches.Caches.next_small.Goals as goal
 
 pub returns : goal.returns
 returns c =
-    subst (λ (sizes : Sizes). IsNext (IsSmallIn sizes) c.args.after c.next_small.result)
+    subst (λ (sizes : Sizes). IsNextLeaf (IsSmallIn sizes) c.args.after c.next_small.result)
     (λ i leaf. size_in (cached_is c.self.inside.caches.items c.self.inside.places c.args.rank.0 c.args.self.now c.self.view_is c.self.invariant c.requires c.index.result.now c.index.ensures leaf i)) c.next_small.ensures

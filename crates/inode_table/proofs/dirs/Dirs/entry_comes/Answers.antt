@@ -1,5 +1,5 @@
 -- The root's count is raised beside the rows, that of another directory in its row.
-use Rattle.inode_table.proofs.Common.{Table, ap, arith, refl, sym, ℕ, ◌+◌}
+use Rattle.inode_table.proofs.Common.{DirTable, ap, arith, refl, sym, ℕ, ◌+◌}
 use Rattle.inode_table.proofs.Chains.{are_same, are_apart}
 use Rattle.inode_table.proofs.RowLaws.{has_known_row}
 use Rattle.inode_table.proofs.SeenRows.{other_count, root_count, root_other_count, row_count}
@@ -13,7 +13,7 @@ returns-then-eq c = root_other_count _ _ _ _ _ c.self.view_is c.self.invariant c
 
 pub unreachable-requires : goal.unreachable-requires
 unreachable-requires c =
-    has_known_row c.self.inside.root _ c.args.dir.0 (are_apart _ _ c.if-eq.ensures) (sym c.in_default.ensures.value) (rw (ap (λ (t : Table). t.homes) c.self.view_is) c.requires.known)
+    has_known_row c.self.inside.root _ c.args.dir.0 (are_apart _ _ c.if-eq.ensures) (sym c.in_default.ensures.value) (rw (ap (λ (t : DirTable). t.homes) c.self.view_is) c.requires.known)
 
 pub overflow_add-row : goal.overflow_add-row
 overflow_add-row c = omega (arith, c.requires.few, row_count _ _ _ _ _ c.self.view_is c.self.invariant c.args.dir.0 c.in-Some.row.now c.in-Some.ensures.value (are_apart _ _ c.if-eq.ensures))

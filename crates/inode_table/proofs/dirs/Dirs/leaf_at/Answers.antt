@@ -1,5 +1,5 @@
 -- A hash falls in the leaves that are kept beside the rows, or in those of a row, which tells the directory's home and its entries too.
-use Rattle.inode_table.proofs.Common.{IsPick, ap, leaves_in, option_copied, or_whole, or_zero, subst, sym, ◌∙◌}
+use Rattle.inode_table.proofs.Common.{IsPick, ap, leaves_of_row, option_copied, or_whole, or_zero, subst, sym, ◌∙◌}
 use Rattle.inode_table.proofs.Chains.{are_same, are_apart}
 use Rattle.inode_table.proofs.CountRows.{count_at_root, count_at_row, count_in}
 use Rattle.inode_table.proofs.RowLaws.{at_root, at_row, get_leaves, leaves_at_root, no_directory}
@@ -26,5 +26,5 @@ returns c =
     rw (← c.self.view_is) (record {
       at = at_row c.self.inside.root _ c.args.dir.0 c.args.hash c.picked-2.result c.in_ok-row.row.now apart found (subst (λ o. IsPick (or_whole o) c.args.hash c.picked-2.result) c.leaves-leaves.ensures c.picked-2.ensures);
       entries = sym (count_at_row c.self.inside.in_root _ c.args.dir.0 apart ∙ ap (λ r. or_zero (count_in r)) found);
-      leaves = ap or_whole (c.leaves-leaves.ensures ∙ sym (get_leaves c.self.inside.root _ c.args.dir.0 apart ∙ ap leaves_in found));
+      leaves = ap or_whole (c.leaves-leaves.ensures ∙ sym (get_leaves c.self.inside.root _ c.args.dir.0 apart ∙ ap leaves_of_row found));
     })

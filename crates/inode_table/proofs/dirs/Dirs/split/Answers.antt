@@ -1,5 +1,5 @@
 -- The root's leaves are split beside the rows, those of another directory in its row.
-use Rattle.inode_table.proofs.Common.{CanSplit, Table, ap, subst, sym}
+use Rattle.inode_table.proofs.Common.{CanSplit, DirTable, ap, subst, sym}
 use Rattle.inode_table.proofs.Chains.{are_same, are_apart}
 use Rattle.inode_table.proofs.RowLaws.{has_known_row}
 use Rattle.inode_table.proofs.SeenRows.{root_leaves, root_splits, row_leaves, row_splits}
@@ -23,7 +23,7 @@ returns-then-eq c =
 -- of another directory
 pub unreachable-requires : goal.unreachable-requires
 unreachable-requires c =
-    has_known_row c.self.inside.root _ c.args.dir.0 (are_apart _ _ c.if-eq.ensures) (sym c.in_default.ensures.value) (rw (ap (λ (t : Table). t.homes) c.self.view_is) c.requires.known)
+    has_known_row c.self.inside.root _ c.args.dir.0 (are_apart _ _ c.if-eq.ensures) (sym c.in_default.ensures.value) (rw (ap (λ (t : DirTable). t.homes) c.self.view_is) c.requires.known)
 
 pub split-requires : goal.split-requires
 split-requires c = subst (λ l. CanSplit l c.args.frag c.args.bits) (row_leaves _ _ _ _ _ c.self.view_is c.self.invariant c.args.dir.0 c.in-Some.row.now c.in-Some.ensures.value (are_apart _ _ c.if-eq.ensures)) c.requires.can

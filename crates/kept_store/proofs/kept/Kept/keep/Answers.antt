@@ -1,7 +1,7 @@
 use Rattle.std.proofs.Common.{◌⊎◌, ◌∙◌, arith, subst, sym}
 use Rattle.sqlite_trees.specs.View.{IsClean}
 use Rattle.object_tables.specs.Sessions.{HasSessionRows}
-use Rattle.keeping.specs.Rows.{edited}
+use Rattle.keeping.specs.Rows.{rows_after_edits}
 use Rattle.kept_store.specs.Kept.{HasBoth, KeptObjects, StoresRows}
 use Rattle.kept_store.proofs.KeptLaws.{both_of, crash_of, kept_all, kept_anyway, objects_of, on_err, open_of, seen}
 use Rattle.kept_store.proofs.kept.Kept.keep.Goals as goal
@@ -65,8 +65,8 @@ returns-clause-rows g c clean rows =
     let saved = c.in_ok-save.ensures.saved clean in
     let is_open = open_of old.is_open old.is_broken (g.met.T.Store.broken_if_shut tables) saved.0 in
     let both = both_of old (g.T.Store.recovers tables) c.self.inside.objects c.self.inside.changes c.args.edits.now (c.self.invariant early) is_open (g.met.T.Store.stays tables) new.committed saved.1 in
-    subst (λ (k : KeptObjects _). StoresRows (g.T.Store.recovers k.tables) rows → StoresRows (g.T.Store.recovers c.save.new.trees) (edited c.args.edits.now rows)) c.self.view_is
-    (λ stored db may. subst (λ t. HasSessionRows t (edited c.args.edits.now rows)) (sym (g.met.T.Store.settled c.save.new.trees db (c.in_ok-save.ensures.open clean ∙ is_open) may)) (both.1 rows stored))
+    subst (λ (k : KeptObjects _). StoresRows (g.T.Store.recovers k.tables) rows → StoresRows (g.T.Store.recovers c.save.new.trees) (rows_after_edits c.args.edits.now rows)) c.self.view_is
+    (λ stored db may. subst (λ t. HasSessionRows t (rows_after_edits c.args.edits.now rows)) (sym (g.met.T.Store.settled c.save.new.trees db (c.in_ok-save.ensures.open clean ∙ is_open) may)) (both.1 rows stored))
 
 pub returns-clause-crash : goal.returns-clause-crash
 returns-clause-crash g c clean db may =

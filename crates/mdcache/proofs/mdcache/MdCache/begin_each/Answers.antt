@@ -1,5 +1,5 @@
 -- Each turn begins a commit of the first leaf that is left.
-use Rattle.mdcache.proofs.Common.{AllByRecursion, IsBegunAt, Jobs, Leaf, State, ap, get-empty, leaf_cmp, leaf_of, leaves_at, leaves_of_jobs, rules, state_of, subst, sym, ◌++◌, ◌∙◌}
+use Rattle.mdcache.proofs.Common.{AllByRecursion, IsBegunAt, Jobs, Leaf, State, ap, get-empty, leaf_cmp, leaf_of, leaves_of_places, leaves_of_jobs, rules, state_of, subst, sym, ◌++◌, ◌∙◌}
 use Rattle.std.specs.FinMap as map
 use Rattle.mdcache.proofs.BatchLaws.{begin_lacks, begins_next, next_free}
 use Rattle.mdcache.proofs.KeptTree.{kept_itself, steps_keep_tree}
@@ -12,7 +12,7 @@ pub loop-at-init : goal.loop-at-init
 loop-at-init g c =
     let none = c.in_ok-begun.ensures.items in
     let begun = subst (AllByRecursion (IsBegunAt c.args.self.now)) (sym none) tt in
-    let listed = ap (λ bs. leaves_of_jobs bs ++ leaves_at c.args.leaves.now) none in
+    let listed = ap (λ bs. leaves_of_jobs bs ++ leaves_of_places c.args.leaves.now) none in
     search (rules, begun, listed, λ (q : Leaf). ap (λ (jobs : Jobs). map.get jobs q) c.requires.none ∙ get-empty leaf_cmp q, kept_itself c.args.self.now)
 
 pub begin_one-requires-clause-free : goal.begin_one-requires-clause-free

@@ -1,6 +1,6 @@
 use Rattle.mdcache.proofs.Common.{Cached, Core, HasCached, IfSome, Ino, Inode, IsRecordable, List, MayGo, MayMove, Names, Option, ap, dentry_at, here, leaf_of, length, moves, state_of, subst, sym, with_home, ℕ, ◌<◌, ◌∙◌}
 use Rattle.std.specs.FinMap as map
-use Rattle.cached_frag.specs.Cached.{shown as shown_of}
+use Rattle.cached_frag.specs.Cached.{shown_names as shown_of}
 use Rattle.mdcache.proofs.ChangeLaws.{entry_known}
 use Rattle.mdcache.proofs.ChangesMade.{after_reads, counts_fit, entry_moved, may_still}
 use Rattle.mdcache.proofs.HomeLaws.{relocates, replaces}

@@ -1,4 +1,4 @@
-use Rattle.sessions.proofs.Common.{Held, None, Session, Some, ap, contents, nat_cmp, refl, rows, sym, ◌∙◌, ◌≡◌}
+use Rattle.sessions.proofs.Common.{HeldSessions, None, Session, Some, ap, contents, nat_cmp, refl, rows, sym, ◌∙◌, ◌≡◌}
 use Rattle.std.specs.FinMap as map
 use Rattle.sessions.proofs.RowLaws.{forgot_known, forgot_unknown, kept_known, same_behind, same_rows}
 use Rattle.sessions.proofs.session_table.Sessions.release.Goals as goal
@@ -6,7 +6,7 @@ use Rattle.sessions.proofs.session_table.Sessions.release.Goals as goal
 pub returns-in-Some : goal.returns-in-Some
 returns-in-Some c =
     let its : map.get (contents nat_cmp c.self.inside.indices) c.args.first.now.client ≡ Some c.in-Some.i =
-    rw (← c.find.ensures.named) (ap (λ (h : Held). map.get h.indices c.find.result.client) c.self.view_is ∙ c.find.ensures.found ∙ c.in-Some.is) in
+    rw (← c.find.ensures.named) (ap (λ (h : HeldSessions). map.get h.indices c.find.result.client) c.self.view_is ∙ c.find.ensures.found ∙ c.in-Some.is) in
     let m = contents nat_cmp c.self.inside.indices in
     let ss = c.self.inside.sessions.items in
     let f = c.self.inside.forgotten in
@@ -26,5 +26,5 @@ returns-in-Some c =
 pub returns-in-None-clause-gone : goal.returns-in-None-clause-gone
 returns-in-None-clause-gone c =
     let none : map.get (contents nat_cmp c.self.inside.indices) c.args.first.now.client ≡ None =
-    rw (← c.find.ensures.named) (ap (λ (h : Held). map.get h.indices c.find.result.client) c.self.view_is ∙ c.find.ensures.found ∙ c.in-None.is) in
+    rw (← c.find.ensures.named) (ap (λ (h : HeldSessions). map.get h.indices c.find.result.client) c.self.view_is ∙ c.find.ensures.found ∙ c.in-None.is) in
     λ _. rw (← c.self.view_is) (same_behind c.self.inside.forgotten _ _ (forgot_unknown (contents nat_cmp c.self.inside.indices) c.self.inside.sessions.items c.args.first.now.client none c.self.inside.forgotten c.args.first.now refl))

@@ -1,4 +1,4 @@
-use Rattle.sessions.proofs.Common.{Held, None, Row, Some, ap, contents, is_some, nat_cmp, rows, subst, sym, ◌+◌, ◌∙◌, ◌≡◌, ◌≤◌}
+use Rattle.sessions.proofs.Common.{HeldSessions, None, Row, Some, ap, contents, is_some, nat_cmp, rows, subst, sym, ◌+◌, ◌∙◌, ◌≡◌, ◌≤◌}
 use Rattle.std.specs.FinMap as map
 use Rattle.std.proofs.Common.{Err, IfErr, IsErrAnd, Ok, OnErr, Result}
 use Rattle.sessions.proofs.RestoredLaws.{unfit_reply}
@@ -8,7 +8,7 @@ use Rattle.sessions.proofs.session_table.Sessions.restore_reply.Goals as goal
 pub returns-in_default-clause-unfit : goal.returns-in_default-clause-unfit
 returns-in_default-clause-unfit c =
     let none : map.get (contents nat_cmp c.self.inside.indices) c.args.client ≡ None =
-    rw (← c.find.ensures.named) (ap (λ (h : Held). map.get h.indices c.find.result.client) c.self.view_is ∙ c.find.ensures.found ∙ c.in_default.is) in
+    rw (← c.find.ensures.named) (ap (λ (h : HeldSessions). map.get h.indices c.find.result.client) c.self.view_is ∙ c.find.ensures.found ∙ c.in_default.is) in
     rw (← c.self.view_is) (no_row_there (contents nat_cmp c.self.inside.indices) c.self.inside.sessions.items c.args.client none)
 
 -- what was refused for a reason that the row has
@@ -25,7 +25,7 @@ returns-in_err-restore-clause-same c =
     let m = contents nat_cmp c.self.inside.indices in
     let ss = c.self.inside.sessions.items in
     let its : map.get m c.args.client ≡ Some c.in-Some.i =
-    rw (← c.find.ensures.named) (ap (λ (h : Held). map.get h.indices c.find.result.client) c.self.view_is ∙ c.find.ensures.found ∙ c.in-Some.is) in
+    rw (← c.find.ensures.named) (ap (λ (h : HeldSessions). map.get h.indices c.find.result.client) c.self.view_is ∙ c.find.ensures.found ∙ c.in-Some.is) in
     in_either c.from_residual.result _ (rw (← c.self.view_is) (same_behind c.self.inside.forgotten _ _ (same_rows m ss c.args.client c.self.invariant.0 c.in-Some.i its c.restore.new.self c.index_mut.result.now c.index_mut.ensures.value c.in_err-restore.ensures.same)))
 
 pub returns-in_err-restore-clause-unfit : goal.returns-in_err-restore-clause-unfit
@@ -33,7 +33,7 @@ returns-in_err-restore-clause-unfit c =
     let m = contents nat_cmp c.self.inside.indices in
     let ss = c.self.inside.sessions.items in
     let its : map.get m c.args.client ≡ Some c.in-Some.i =
-    rw (← c.find.ensures.named) (ap (λ (h : Held). map.get h.indices c.find.result.client) c.self.view_is ∙ c.find.ensures.found ∙ c.in-Some.is) in
+    rw (← c.find.ensures.named) (ap (λ (h : HeldSessions). map.get h.indices c.find.result.client) c.self.view_is ∙ c.find.ensures.found ∙ c.in-Some.is) in
     let was = c.index_mut.result.now in
     let known = read m ss c.args.client c.self.invariant.0 c.in-Some.i its was was c.index_mut.ensures.value ∙ sym (row_known m ss c.args.client c.in-Some.i its) in
     for_one c.from_residual.result c.in_err-restore.field-0.0 _ c.from_residual.ensures.1
@@ -44,7 +44,7 @@ returns-clause-taken c =
     let m = contents nat_cmp c.self.inside.indices in
     let ss = c.self.inside.sessions.items in
     let its : map.get m c.args.client ≡ Some c.in-Some.i =
-    rw (← c.find.ensures.named) (ap (λ (h : Held). map.get h.indices c.find.result.client) c.self.view_is ∙ c.find.ensures.found ∙ c.in-Some.is) in
+    rw (← c.find.ensures.named) (ap (λ (h : HeldSessions). map.get h.indices c.find.result.client) c.self.view_is ∙ c.find.ensures.found ∙ c.in-Some.is) in
     let found = c.index_mut.ensures.value in
     let was = c.index_mut.result.now in
     let takes = c.in_ok-restore.ensures.taken in

@@ -1,4 +1,4 @@
-use Rattle.sorted_map.proofs.Common.{arith, insert, load, start, ◌+◌, ◌-◌, ◌∙◌, ◌≡◌}
+use Rattle.sorted_map.proofs.Common.{arith, insert, load, items_before, ◌+◌, ◌-◌, ◌∙◌, ◌≡◌}
 use Rattle.sorted_map.proofs.RoomLaws.{split_facts, full_spare, room_apart}
 use Rattle.sorted_map.proofs.chunks.edits.put_apart.Goals as goal
 
@@ -52,7 +52,7 @@ returns-then-at-le-HALF-clause-room g c =
 pub returns-else-at-le-HALF-clause-items : goal.returns-else-at-le-HALF-clause-items
 returns-else-at-le-HALF-clause-items g c =
     let facts = split_facts _ _ c.args.home c.requires.some c.requires.home c.requires.full c.split.ensures.lists in
-    let at : start c.split.new.self.lists (c.args.home + 1) + (c.args.at - 32) ≡ start c.args.chunks.now.lists c.args.home + c.args.at = omega (arith, facts.start_back, c.if-at-le-HALF.false) in
+    let at : items_before c.split.new.self.lists (c.args.home + 1) + (c.args.at - 32) ≡ items_before c.args.chunks.now.lists c.args.home + c.args.at = omega (arith, facts.start_back, c.if-at-le-HALF.false) in
     c.put_within-else-at-le-HALF.ensures.items ∙ (λ i. insert (facts.same i) (at i) c.args.pair)
 
 pub returns-else-at-le-HALF-clause-room : goal.returns-else-at-le-HALF-clause-room

@@ -1,4 +1,4 @@
-use Rattle.sorted_map.proofs.Common.{AllSome, [], ap, arith, flat, get_or, length, length-set, load, room_by, set, start, subst, sym, ◌+◌, ◌∙◌, ◌≡◌}
+use Rattle.sorted_map.proofs.Common.{AllSome, [], ap, arith, flat, get_or, length, length-set, load, room_by, set, items_before, subst, sym, ◌+◌, ◌∙◌, ◌≡◌}
 use Rattle.sorted_map.proofs.ChunkLaws.{one_of}
 use Rattle.sorted_map.proofs.FlatLaws.{flat_set, flat_get, some_set}
 use Rattle.sorted_map.proofs.RoomLaws.{same_load}
@@ -8,7 +8,7 @@ pub returns-clause-items : goal.returns-clause-items
 returns-clause-items g c = λ d.
     let cs = c.args.chunks.now.lists in
     ap flat (c.replaced.ensures.lists d) ∙ flat_set cs c.args.home c.args.at _ c.requires.home c.requires.within
-    ∙ ap (λ x. set (flat cs) (start cs c.args.home + c.args.at) (x.0, c.args.value)) (sym (flat_get cs c.args.home c.args.at d c.requires.within))
+    ∙ ap (λ x. set (flat cs) (items_before cs c.args.home + c.args.at) (x.0, c.args.value)) (sym (flat_get cs c.args.home c.args.at d c.requires.within))
 
 pub returns-clause-value : goal.returns-clause-value
 returns-clause-value g c = λ d. c.replaced.ensures.value d ∙ ap (λ x. x.1) (sym (flat_get c.args.chunks.now.lists c.args.home c.args.at d c.requires.within))

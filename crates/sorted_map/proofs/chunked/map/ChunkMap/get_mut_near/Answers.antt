@@ -1,4 +1,4 @@
-use Rattle.sorted_map.proofs.Common.{IsAt, IsTotalOrder, List, Ordering, Some, T, [], ap, arith, entries-from_sorted, flat, get_or, length, refl, room_by, set, start, sym, with_value, ℕ, ◌+◌, ◌<◌, ◌∙◌, ◌≡◌}
+use Rattle.sorted_map.proofs.Common.{IsKeyAt, IsTotalOrder, List, Ordering, Some, T, [], ap, arith, entries-from_sorted, flat, get_or, length, refl, room_by, set, items_before, sym, with_value, ℕ, ◌+◌, ◌<◌, ◌∙◌, ◌≡◌}
 use Rattle.std.specs.FinMap as map
 use Rattle.std.specs.FinMap.Entries.{is_sorted}
 use Rattle.sorted_map.proofs.ChunkLaws.{one_of}
@@ -8,7 +8,7 @@ use Rattle.sorted_map.proofs.RoomLaws.{same_load}
 use Rattle.sorted_map.proofs.chunked.map.ChunkMap.get_mut_near.Goals as goal
 
 -- a value that is written is inserted
-written : {K V : Type 0} {R : K → K → Ordering} (o : IsTotalOrder R) (k : K) (w : V) (cs : List (List (K × V))) (i at : ℕ) → T (is_sorted R (flat cs)) → IsAt R k (flat cs) (start cs i + at) → i < length cs → at < length (get_or cs i [])
+written : {K V : Type 0} {R : K → K → Ordering} (o : IsTotalOrder R) (k : K) (w : V) (cs : List (List (K × V))) (i at : ℕ) → T (is_sorted R (flat cs)) → IsKeyAt R k (flat cs) (items_before cs i + at) → i < length cs → at < length (get_or cs i [])
     → flat (set cs i (with_value (get_or cs i []) at w)) ≡ map.entries (map.insert (map.from_sorted {R = R} (flat cs)) k w)
 written {R = R} o k w cs i at s place lt within =
     let new = put_in_place o k w (flat cs) _ _ s place (λ d. value_flat cs i at d w lt within) in
