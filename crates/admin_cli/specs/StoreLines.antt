@@ -26,7 +26,7 @@ use Rattle.script_text.specs.declared.store_commands.StoreCommand.TheVariants.{C
 use Rattle.script_output.specs.declared.lines.OutputLine.{OutputLine}
 use Rattle.script_output.specs.declared.lines.OutputLine.TheVariants.{Nothing as NothingLine, Flushed, Job as JobLine, Object as ObjectLine, Objects as ObjectsLine, Refused}
 use Rattle.script_output.specs.declared.object_lines.ObjectLine.{ObjectLine as Shown}
-use Rattle.object_lines.specs.ObjectLines.{IsLineOf, MayTakeMemory}
+use Rattle.script_output.specs.ShownObjects.{IsLineOf, MayTakeMemory}
 use Rattle.admin_cli.specs.Admin.{Admin}
 use Rattle.admin_cli.specs.StepLines.{DoesEvent, IsStep, shown_line}
 

@@ -1,4 +1,8 @@
 pub mod Common
+pub mod CountLaws
+pub mod KeyLaws
+pub mod ObjectCommon
+pub mod ObjectLaws
 pub mod PrintedFragments
 pub mod PrintedNames
 pub mod PrintedNumbers

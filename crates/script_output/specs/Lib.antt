@@ -6,3 +6,6 @@ pub mod Lines
 pub mod Writing
 pub mod ReplyLines
 pub mod Laws
+pub mod ObjectEntries
+pub mod ShownObjects
+pub mod ObjectParts

@@ -1,4 +1,0 @@
-pub mod Common
-pub mod CountLaws
-pub mod KeyLaws
-pub mod ObjectLaws

@@ -1,9 +1,0 @@
--- The counts so far, with the pairs to come, give what all pairs give; and there are no more than pairs were passed.
-use Rattle.object_lines.proofs.Common.{counted_header, counted_after, drop, ◌+◌, ◌≡◌, ◌≤◌}
-use Rattle.object_lines.proofs.entries.counted.Given as goal
-
-abbrev pub invariant-loop-key : goal.invariant-loop-key
-invariant-loop-key l = record {
-  whole : counted_after (record { version = l.version; files = l.files; dirs = l.dirs }) (drop l.key-index l.pairs) ≡ counted_header l.fn.version l.fn.pairs;
-  few : l.files + l.dirs ≤ l.key-index;
-}

@@ -1,6 +1,0 @@
-use Rattle.object_lines.proofs.Common.{List, map, ℕ, ◌≡◌}
-use Rattle.object_lines.proofs.fragments.keys_of.Given as goal
-
--- the keys of the pairs passed are in the list
-abbrev pub invariant-loop-key : goal.invariant-loop-key
-invariant-loop-key l = l.keys.items ≡ map (λ (pair : List ℕ × List ℕ). pair.0) l.yielded
