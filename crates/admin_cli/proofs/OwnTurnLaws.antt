@@ -34,7 +34,7 @@ module _ (old new : Admin) (step : OwnStep) (dir : Ino) (f : Fragment) (shown : 
   made_line (Finish ino frag) named other another does = (shown, does, line_is _ ino frag named)
   made_line (Cancel ino frag) named other another does = (shown, does, line_is _ ino frag named)
 
--- so it is with the line that tells it
+-- the line that tells an own step is what its event shows
 pub told_line : (old new : Admin) (step : OwnStep) (dir : Ino) (f : Fragment) (shown line : OutputLine) (event : Event) → line ≡ own_line_of step dir f shown → IsCalled event step dir f → ((ino : Ino) (frag : Fragment) → event ≡ Send ino frag → ⊥) → ((ino : Ino) (frag : Fragment) (bytes : List ℕ) → event ≡ Import ino frag bytes → ⊥)
     → DoesEvent old new event shown → MakesStep old new event line
 told_line old new step dir f shown line event is named other another does = subst (λ (l : OutputLine). MakesStep old new event l) (sym is) (made_line old new step dir f shown event named other another does)

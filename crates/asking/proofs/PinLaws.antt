@@ -30,7 +30,7 @@ pin_without pins leaf client tid =
     (λ e. filter-append (λ (p : Pin). not (is_for client tid p)) pins (pin ∷ [])
     ∙ ap (λ (b : Bool). left_without (is_for client tid) pins ++ cond (not b) (pin ∷ []) []) (for_itself leaf client tid) ∙ append-nil (left_without (is_for client tid) pins))
 
--- so it is with several
+-- a grant is kept where several others are added
 pub grants_keep : (leaves : List Leaf) (pins : List Pin) (client tid : ℕ) (p : Pin) → list_any (is_same_grant p) pins ≡ true → list_any (is_same_grant p) (with_grants pins leaves client tid) ≡ true
 grants_keep [] pins client tid p stands = stands
 grants_keep (leaf ∷ leaves) pins client tid p stands = grants_keep leaves (with_grant pins (grant_of leaf client tid)) client tid p (kept_pin pins (grant_of leaf client tid) p stands)

@@ -43,7 +43,7 @@ module _ (old new : Ranked) (subtrees : new.subtrees ≡ old.subtrees) where
     refused_so reason refuses tree exports =
         (refuses, record { same = refl; left = λ i. state_of (tree i) (roots_same i) (exports i) numbers inboxes pins sessions })
 
-    -- so it is with a result that is an error for this reason
+    -- an Import whose result is an error for this reason is refused so
     pub refused_by : (result : Result Answer Refusal) (why : Refusal) → IsErr result → IsErrAnd result (λ e. e ≡ why) → RefusesImport (λ count rank. LacksPlacesIn count old.tree rank) (tree_state old.tree) old.subtrees.roots old.exports leaf bytes why
         → tree_state new.tree ≡ tree_state old.tree → new.exports ≡ old.exports → ImportsExport was is past past leaf bytes result
     refused_by (Ok answer) why error that refuses tree exports = absurd that

@@ -30,7 +30,7 @@ Rewrites Change r leaf old new = IsRewritten Change r leaf (here old r leaf) old
 abbrev pub HasNoKeptPlace : CacheMap → ℕ → Leaf → Type 0
 HasNoKeptPlace c r leaf = has_place c r leaf ≡ true → IsThere (here c r leaf)
 
--- so it is with each leaf at each rank
+-- no place is kept for any leaf at any rank
 abbrev pub KeepsNone : CacheMap → Type 0
 KeepsNone c = (r : ℕ) (leaf : Leaf) → HasNoKeptPlace c r leaf
 

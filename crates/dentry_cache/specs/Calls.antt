@@ -36,7 +36,7 @@ LeavesPages frag these pairs Off = pages_read frag these ≡ 1
 LeavesPages frag these pairs Last = pages_read frag these ≡ 1
 LeavesPages frag these pairs (More key) = pages_read frag these ≡ suc (pages_read frag (pairs_after pairs (Some key)))
 
--- so it is with the pairs of an object behind a key
+-- the pages that are left of the pairs of an object behind a key
 abbrev pub PagesLeft : Fragment → Option Omap → Option (List ℕ) → PageEnd → Type 0
 PagesLeft frag object after Off = pages_read frag (pairs_left object after) ≡ 1
 PagesLeft frag object after Last = pages_read frag (pairs_left object after) ≡ 1

@@ -57,7 +57,7 @@ pub record MaySend (f : Cached) : Type 0 where
   pub few : map.len f.dirty < 2 ^ 32
   pub version : HasVersion f.base
 
--- so it is with each of these leaves, at a rank
+-- the fragment of each of these leaves at a rank can be sent
 abbrev pub MaySendAll : CacheMap → ℕ → List Leaf → Type 0
 MaySendAll c r leaves = AllByRecursion (λ (leaf : Leaf). HasCached (here c r leaf) MaySend) leaves
 

@@ -41,7 +41,7 @@ untouched_on a b c leaf p q live = let second = q (p live).live in record { live
 pub lacked_at : (count : ℕ) (a b : Core) (rank : Rank) → KeepsState a b None → LacksPlacesAt count b rank → LacksPlacesAt count a rank
 lacked_at count a b rank kept lacks = omega (arith, kept.cap, ap (λ (m : UnsavedLeaves). map.len m) (kept.unclean rank.0), lacks)
 
--- so it is with a rank that holds a leaf of a directory that is asked for, where these are told by the state
+-- where places lack now at a rank that holds a leaf of a directory that is asked for, they lacked before
 pub lacked_asked : (count : ℕ) (Asked : State → ℕ → Type 0) (Holds : State → Leaf → Rank → Type 0) (a b : Core) → KeepsState a b None
     → (leaf : Leaf) × Asked (state_of b) leaf.0.0 × (rank : Rank) × Holds (state_of b) leaf rank × LacksPlacesAt count b rank
     → (leaf : Leaf) × Asked (state_of a) leaf.0.0 × (rank : Rank) × Holds (state_of a) leaf rank × LacksPlacesAt count a rank

@@ -58,7 +58,7 @@ IsReadied b result = MatchResult result (λ ready. ready ≡ ready_of b) (λ rea
 abbrev pub leaves_of_writes : List Ready → List Leaf
 leaves_of_writes ready = list_map (λ (r : Ready). leaf_of_job r.encoded.job) ready
 
--- so it is with the job of a write
+-- the job of this write was begun, and its fragment hasn't changed since
 abbrev pub IsReadyWrite : Core → Ready → Type 0
 IsReadyWrite core r = IsBegunAt core (record { rank = r.rank; job = r.encoded.job })
 

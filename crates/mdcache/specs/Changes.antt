@@ -75,7 +75,7 @@ with_directory s dentry dir = record s {
   next_generation = s.next_generation + 1;
 }
 
--- so it is with an inode that came, if that is a directory
+-- the state with an inode that was created: if it is a directory, with its row and first leaf
 abbrev pub with_new : State → Dentry → Inode → State
 with_new s dentry inode = cond (is_dir_kind inode.kind) (with_directory s dentry inode.ino) s
 
@@ -118,7 +118,7 @@ abbrev pub rows_but : {X : Type 0} → map.FinMap nat_cmp X → Option Ino → m
 rows_but rows None = rows
 rows_but rows (Some dir) = map.remove rows dir.0
 
--- so it is with what went, if that is a directory
+-- the state without a directory that was removed, if one was
 abbrev pub without_gone_dir : State → Option Ino → State
 without_gone_dir s None = s
 without_gone_dir s (Some dir) = without_directory s dir

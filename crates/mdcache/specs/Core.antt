@@ -76,8 +76,8 @@ state_of c = record {
 abbrev pub shown_in : Core → Tree
 shown_in c = shown_tree (state_of c)
 
--- so it is with a rank, whatever was fetched and in whatever order fragments were used: each other place of its cache
--- is that of a fragment that isn't clean
+-- a rank lacks so many places, whatever was fetched and in whatever order fragments were used: each other place of
+-- its cache has a fragment that isn't clean
 abbrev pub LacksPlacesAt : ℕ → Core → Rank → Type 0
 LacksPlacesAt count core rank = LacksPlacesIn count core.caches rank.0
 
@@ -88,7 +88,7 @@ pub record IsCachedIn (s : State) (leaf : Leaf) (f : Cached) : Type 0 where
   pub tied : IsTied f (object_of s.objects leaf.0 leaf.1)
   pub made : f.generation < s.next_generation
 
--- so it is with each
+-- each cached fragment is sound
 abbrev pub AllCachedIn : State → CacheMap → Type 0
 AllCachedIn s caches = (leaf : Leaf) (a : At) → map.get caches.held leaf ≡ Some a → IsCachedIn s leaf a.frag
 

@@ -63,7 +63,7 @@ pub record KeepsTree (old new : Core) : Type 0 where
   pub version : new.next_version ≡ old.next_version
   pub caches : Came (HasFragment old.caches) NoneEnds old.caches new.caches
 
--- so it is with two steps
+-- two such steps, one after the other, are one
 abbrev pub StepsKeepTree : Type 0
 StepsKeepTree = (old mid new : Core) → KeepsTree old mid → KeepsTree mid new → KeepsTree old new
 

@@ -14,7 +14,7 @@ pub record HasTree (s : State) (dir : Ino) : Type 0 where
       (Some (tree_object (leaves_of s.covers dir.0))) None
   pub listed : map.get s.purge (tree_text dir) ≡ None
 
--- so it is with each directory whose leaves were ever set
+-- each directory whose leaves were ever set has the tree object that it should have
 abbrev pub HasTrees : State → Type 0
 HasTrees s = (dir : Ino) → is_some (map.get s.covers dir.0) ≡ true → HasTree s dir
 

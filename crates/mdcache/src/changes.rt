@@ -168,7 +168,7 @@ impl<S: Store + Drop> MdCache<S> {
         }
     }
 
-    // So it is with one of them.
+    // Ends one leaf of a directory.
     #[inline(always)]
     fn end_leaf(&mut self, dir: Ino, leaf: Frag)
         requires room { 0 < self.old.room.purge }

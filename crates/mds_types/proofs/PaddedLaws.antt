@@ -70,7 +70,7 @@ padded (x ∷ xs) (y ∷ ys) p q e =
     ∙ then_then (nat_cmp x y) (slice_cmp nat_cmp (xs ++ zeros p) (ys ++ zeros q)) (nat_cmp (length xs) (length ys))
     ∙ ap (ordering_then (ordering_then (nat_cmp x y) (slice_cmp nat_cmp (xs ++ zeros p) (ys ++ zeros q)))) (longer (length xs) (length ys) (nat_cmp (length xs) (length ys)) (ranks (length xs) (length ys)))
 
--- so it is with 22 bytes of which some count
+-- the order of two texts of 22 bytes each, of which only the first so many count
 module _ (a b : List ℕ) (n m : ℕ) (first : IsPadded n a) (second : IsPadded m b) (wide : length a ≡ 22) (broad : length b ≡ 22) where
   whole : slice_cmp nat_cmp (take n a) (take m b) ≡ ordering_then (slice_cmp nat_cmp a b) (nat_cmp n m)
   whole =

@@ -84,7 +84,7 @@ pub record SetsEntry (old new : List Row) (key : Row) (value : Option (List ℕ)
 abbrev pub LeavesOthers : View → View → ℕ → Type 0
 LeavesOthers old new tree = (t : ℕ) → (t ≡ tree → ⊥) → new.trees t ≡ old.trees t
 
--- so it is with one tree of a store; each other is as it was, and nothing else changed but cursors
+-- a row of one tree of a store was put, changed or removed; each other tree is as it was, and nothing else changed but cursors
 pub record PutsRow (old new : View) (tree : ℕ) (key : Row) (value : Option (List ℕ)) : Type 0 where
   pub sound : old.is_broken ≡ false
   pub sets : SetsEntry (old.trees tree) (new.trees tree) key value

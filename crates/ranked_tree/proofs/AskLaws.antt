@@ -21,7 +21,7 @@ read_of {X} old new roots leaf rank result owned live rules reads sound counted 
   refused = IfErr-weaker result _ _ (λ reason. not_found_weaker _ _ old.faults new.faults reason (λ lacks. (rank, rules, lacks))) because;
 }
 
--- so it is with a read of one leaf of a directory, after reads of others
+-- why a read of one leaf of a directory is refused, after reads of others
 pub refused_before : (a b : Core) (roots : Roots) (leaf : Leaf) (after : ℕ) (reason : Refusal) → KeepsState a b None → IsLive a.homes a.covers leaf → MayNotFind (LacksPlacesFor 1 b roots leaf) b.faults after reason
     → MayNotFind (LacksPlacesDir 1 a roots leaf.0) a.faults after reason
 refused_before a b roots leaf after reason kept live (inl memory) = inl memory

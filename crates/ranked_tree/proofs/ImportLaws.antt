@@ -96,7 +96,7 @@ module _ (core : Core) (regions : Regions) (divided : IsDivided core regions) (r
               (valid.placed export.exporter.0 leaf (ap (λ (o : Option Cached). is_some o) seen)) (ap clean_in seen ∙ clean) near)) (λ dirty. false≢true (sym among ∙ dirty_picked leaf a.frag seen dirty near)) (cases_Bool (is_clean a.frag))))
               (λ other. inr ((λ near. other (one_root regions.roots.roots core.homes core.covers leaf holder.root root holder.nearest near)), a.frag, was)) (same_or_apart holder.root root)
 
--- ---- so it is with the caches and tables that a call is given
+-- ---- which leaves an Import takes, over the caches and tables that a call is given
 
 -- what holds of each value of a map holds of the one that is found
 of_values : {X : Type 0} (p : X → Bool) (es : List (Leaf × X)) (q : Leaf) (x : X) → list_all p (list_map (λ (e : Leaf × X). e.1) es) ≡ true → find leaf_cmp q es ≡ Some x → p x ≡ true

@@ -64,7 +64,7 @@ pub record EndsRegion (old new : TreeState) (roots : Roots) (root : Leaf) : Type
       → map.get new.jobs leaf ≡ map.get old.jobs leaf
   pub left : new ≡ record old { jobs = new.jobs }
 
--- so it is with one leaf: its job has ended where it is in the region, and otherwise nothing changed
+-- the job of one leaf has ended if the leaf is in the region; otherwise nothing changed
 abbrev pub EndsInside : Roots → Leaf → (old new : TreeState) → Leaf → Type 0
 EndsInside roots root old new leaf =
     (NearestRoot roots old.homes old.covers leaf root × (new ≡ record old { jobs = map.remove old.jobs leaf }))

@@ -130,7 +130,7 @@ abbrev pub LacksPlacesFor : ℕ → Core → Roots → Leaf → Type 0
 LacksPlacesFor count core roots leaf =
     (rank : Rank) × Rules (state_of core) roots leaf rank × LacksPlacesAt count core rank
 
--- so it is with a live leaf of a directory that is asked for
+-- so many places lack at the rank that holds some live leaf of a directory that is asked for
 abbrev pub LacksPlacesAsked : ℕ → Core → Roots → (Asked : ℕ → Type 0) → Type 0
 LacksPlacesAsked count core roots Asked =
     (leaf : Leaf) × Asked leaf.0.0 × IsLive core.homes core.covers leaf × LacksPlacesFor count core roots leaf

@@ -57,7 +57,7 @@ pub unnamed_wanted : (name : List ℕ) (objects : List Object) → AllByRecursio
 unnamed_wanted name [] all = tt
 unnamed_wanted name (o ∷ os) all = (λ e. all.0 cc, unnamed_wanted name os all.1)
 
--- so it is with a schema that describes such objects
+-- a schema that describes objects of other names has none of this name
 pub unnamed_described : (schema : List Wanted) (objects : List Object) (names : List (List ℕ)) (name : List ℕ) → Describes schema objects
     → map (λ (o : Object). o.name.now) objects ≡ names → AllByRecursion (λ n. n ≢ name) names → HasNoName schema name
 unnamed_described schema objects names name is same all =
