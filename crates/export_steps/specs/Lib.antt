@@ -3,3 +3,4 @@ pub mod Handover
 pub mod Holder
 pub mod Regions
 pub mod Standing
+pub mod Laws

@@ -6,3 +6,4 @@ pub mod Rooms
 pub mod Seen
 pub mod Stored
 pub mod Table
+pub mod Laws

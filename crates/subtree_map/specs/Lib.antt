@@ -4,3 +4,4 @@ pub mod Climb
 pub mod Lists
 pub mod Moves
 pub mod Rows
+pub mod Laws
