@@ -1,10 +1,10 @@
 # make run                builds the program with no proof and every check at run time as out/unproved/cephmeta, and runs a first session
 # make, make proved       proves every crate that the program stands on and builds it as ./cephmeta, where one of their files is newer
-# make test               is the gate: every proof from nothing, the edits that must fail, the tests and the programs, over the proved program
+# make test               is the gate: every proof from nothing, the mutants, the tests and the programs, over the proved program
 # make install            puts the proved program with its man page and completions below PREFIX, /usr/local if none is given; with
 #                         PROGRAM=out/unproved/cephmeta the one of `make run`
 # make units [NAME..]     runs the tests of these files of tests/units or of all
-# make strength [CRATE..] tries the edits that the gate leaves out, of these crates or of all
+# make strength [CRATE..] tries the mutants that the gate leaves out, of these crates or of all
 # make check CRATE [FN..] checks one crate, or these functions of it, over libraries that it makes where they aren't there (docs/CONTRIBUTING.md)
 
 # no rule but those below: a search for others at each source takes longer than all else
