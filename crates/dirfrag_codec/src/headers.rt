@@ -49,7 +49,7 @@ pub fn decode_header(bytes: &[u8]) -> Option<FragHeader>
 }
 
 // The fields of a header, and nothing after them.
-#[tactic(auto, unfolding(crate::specs::Reading::header_at))]
+#[tactic(auto, unfolding(crate::specs::Reading::header_read_at))]
 fn header_of(bytes: &[u8]) -> Option<FragHeader>
     ensures { Gives (λ header. header) result (header_read_at bytes.now) }
 {

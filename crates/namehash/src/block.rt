@@ -18,7 +18,7 @@ pub fn last_block(rest: &[u8]) -> Block
 }
 
 /// The little-endian word at byte `i` of a block.
-#[tactic(auto, unfolding(crate::specs::Rjenkins::word_at))]
+#[tactic(auto, unfolding(crate::specs::Rjenkins::block_word))]
 pub fn word_at(block: &Block, i: usize) -> u32
     requires { i + 4 ≤ BLOCK_LEN }
     ensures { result ≡ block_word block.now i }

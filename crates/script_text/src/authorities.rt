@@ -7,7 +7,7 @@ use crate::commands::Command;
 use script_words::{NOT_COMMAND, ReadError, decimal, frag, ino, is_text, one, rank, three, two};
 
 /// `grant RANK CLIENT TID`, where CLIENT may be 0, that of operations alone.
-#[tactic(auto, unfolding(crate::specs::Authorities::grant_of))]
+#[tactic(auto, unfolding(crate::specs::Authorities::grant_of_words))]
 pub fn grant(args: &[u8]) -> Result<Command, ReadError>
     ensures { ReadsWord (λ command. command) result (grant_of_words (words_of args.now)) }
 {

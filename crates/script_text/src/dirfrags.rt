@@ -65,7 +65,7 @@ fn merge(args: &[u8]) -> Result<Command, ReadError>
 }
 
 // `dirfrag ls INO`
-#[tactic(auto, unfolding(crate::specs::Dirfrags::leaves_of))]
+#[tactic(auto, unfolding(crate::specs::Dirfrags::leaves_of_words))]
 fn leaves(args: &[u8]) -> Result<Command, ReadError>
     ensures { ReadsWord (λ command. command) result (leaves_of_words (words_of args.now)) }
 {

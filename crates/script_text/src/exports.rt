@@ -49,7 +49,7 @@ pub enum ExportCommand {
 }
 
 /// What follows `export`.
-#[tactic(auto, unfolding(crate::specs::Exports::export_of))]
+#[tactic(auto, unfolding(crate::specs::Exports::export_of_words))]
 pub fn read_export(args: &[u8]) -> Result<ExportCommand, ReadError>
     ensures { ReadsWord (λ command. command) result (export_of_words (words_of args.now)) }
 {

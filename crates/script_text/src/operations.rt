@@ -66,7 +66,7 @@ enum DentryVerb {
 // `INO NAME` behind such a verb. This and the others below are functions of their own, each with room for what it makes
 // alone; an operation is put together in one place of each, since each hand that it goes through copies it.
 #[inline(never)]
-#[tactic(auto, unfolding(crate::specs::Operations::dentry_of))]
+#[tactic(auto, unfolding(crate::specs::Operations::dentry_of_words))]
 fn on_dentry(alloc: Global, verb: DentryVerb, args: &[u8]) -> Result<Op, ReadError>
     ensures { GivesText HoldsName result (on_dentry_of verb (words_of args.now)) }
 {

@@ -93,7 +93,7 @@ pub fn read_store_command(
 }
 
 // `RANK INO FRAG`: a leaf, and the rank that is asked.
-#[tactic(auto, unfolding(crate::specs::StoreCommands::leaf_of))]
+#[tactic(auto, unfolding(crate::specs::StoreCommands::leaf_of_words))]
 fn leaf(args: &[u8]) -> Result<(Rank, Ino, Frag), ReadError>
     ensures { ReadsWord (λ leaf. leaf) result (leaf_of_words (words_of args.now)) }
 {
@@ -141,7 +141,7 @@ fn commit(args: &[u8]) -> Result<StoreCommand, ReadError>
 }
 
 // `tree INO`
-#[tactic(auto, unfolding(crate::specs::StoreCommands::tree_of))]
+#[tactic(auto, unfolding(crate::specs::StoreCommands::tree_of_words))]
 fn tree(args: &[u8]) -> Result<StoreCommand, ReadError>
     ensures { ReadsWord (λ command. command) result (tree_of_words (words_of args.now)) }
 {
@@ -177,7 +177,7 @@ fn evict(args: &[u8]) -> Result<StoreCommand, ReadError>
 }
 
 // `object NAME`
-#[tactic(auto, unfolding(crate::specs::StoreCommands::object_of))]
+#[tactic(auto, unfolding(crate::specs::StoreCommands::object_of_words))]
 fn object(alloc: Global, args: &[u8]) -> Result<StoreCommand, ReadError>
     ensures { GivesText HoldsObject result (object_of_words (words_of args.now)) }
 {

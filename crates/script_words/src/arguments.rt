@@ -110,7 +110,7 @@ pub fn page_size(word: &[u8]) -> Result<PageSize, ReadError>
 }
 
 /// NAME and TARGET: the bytes that the word stands for.
-#[tactic(auto, unfolding(crate::specs::Arguments::text_of))]
+#[tactic(auto, unfolding(crate::specs::Arguments::text_of_word))]
 pub fn text(alloc: Global, word: &[u8]) -> Result<Bytes, ReadError>
     ensures { GivesWord (λ bytes. bytes) result (text_of_word word.now) }
 {
@@ -222,7 +222,7 @@ pub fn after(alloc: Global, word: &[u8]) -> Result<Option<Name>, ReadError>
 }
 
 /// The target that these bytes are, or the error number of bytes that are none.
-#[tactic(auto, unfolding(crate::specs::Arguments::target_of))]
+#[tactic(auto, unfolding(crate::specs::Arguments::target_of_word))]
 pub fn target(alloc: Global, bytes: &[u8]) -> Result<Target, ReadError>
     ensures { GivesWord (λ target. target) result (target_of_word bytes.now) }
 {
