@@ -2,11 +2,10 @@
 ghost use Rattle.std.specs.Prelude.{◌≡◌, ◌≢◌, ◌+◌, ◌≤◌, ◌++◌, ◌∷◌, [], List, IfOk, OnOk, Err};
 ghost use Rattle.std.specs.FinMap as map;
 ghost use Rattle.std.specs.Result.{result_err};
-ghost use Rattle.cluster_core.specs.Opening.{Opening};
 ghost use Rattle.mds_types.specs.declared.entries.Entry.{Entry as Applied};
 ghost use Rattle.objstore.specs.Objects.{faults_told};
 ghost use Rattle.cluster_core.specs.OneThread.{InOrder, IsOneThread, StandsInHistory, waiting_in};
-ghost use Rattle.cluster_core.specs.Sound.{StandsBehind, IsSoundKept};
+ghost use Rattle.cluster_core.specs.Sound.{GoesOn, IsSoundKept, OfWhole};
 ghost use Rattle.cluster_core.specs.State.{places_of, whole_of};
 ghost use Rattle.cluster_core.specs.declared.events.Answer.TheVariants.{Nothing};
 ghost use Rattle.asking.specs.Among.{AsksAmong};
@@ -37,23 +36,19 @@ pub fn ask<S: Store + Drop>(
     request: Request,
 ) -> Result<Receipt, Refusal>
     requires { NoneWaits book.old.core.state.inboxes }
-    ensures asked { (opening : Opening) (past : List Applied) → StandsBehind opening past book.old
-        → AsksAlone book.old.core book.new.core (past ++ book.old.history) (past ++ book.new.history) rank request
-        result }
+    ensures asked { OfWhole book.old book.new (λ old new. AsksAlone old.core new.core old.history new.history rank
+        request result) }
     ensures thawed { book.old.core.state.exports ≡ map.empty → result ≢ Err Refusal.Frozen }
     ensures none { OnOk result (NoneWaits book.new.core.state.inboxes) }
-    ensures stands { (opening : Opening) (past : List Applied) → StandsBehind opening past book.old → IfOk result
-        (λ receipt. StandsInHistory (past ++ book.new.history) receipt.client receipt.tid receipt.place receipt.reply) }
-    ensures one_thread { (opening : Opening) (past : List Applied) → StandsBehind opening past book.old
-        → IsOneThread book.old.core.state.tree.limit opening (past ++ book.old.history) (past ++ book.new.history)
-        (request ∷ []) (receipt_in result) }
+    ensures stands { OfWhole book.old book.new (λ _ new. IfOk result (λ receipt. StandsInHistory new.history
+        receipt.client receipt.tid receipt.place receipt.reply)) }
+    ensures one_thread { OfWhole book.old book.new (λ old new. IsOneThread old.core.state.tree.limit old.opening
+        old.history new.history (request ∷ []) (receipt_in result)) }
     ensures in_order { InOrder (places_of book.old) (receipt_in result) (places_of book.new) }
-    ensures reached { (opening : Opening) (past : List Applied) → StandsBehind opening past book.old
-        → IsBroughtBy request 20 result (whole_of opening past book.old) (whole_of opening past book.new) }
+    ensures reached { OfWhole book.old book.new (λ old new. IsBroughtBy request 20 result old new) }
     ensures limit { book.new.core.state.tree.limit ≡ book.old.core.state.tree.limit }
     ensures opening { book.new.opening ≡ book.old.opening }
-    ensures goes_on { (opening : Opening) (past : List Applied) → StandsBehind opening past book.old
-        → StandsBehind opening past book.new }
+    ensures goes_on { GoesOn book.old book.new }
     ensures sound { IsSoundKept book.new }
     ensures counted { book.new.core.faults ≡ book.old.core.faults + faults_told (result_err result) }
 {
@@ -96,14 +91,12 @@ fn serve_first<S: Store + Drop>(
     requires { (q : Question) × (past : List Applied) × HasComeBehind q past book.old rank client tid }
     ensures asked { (q : Question) (past : List Applied) → HasComeBehind q past book.old rank client tid
         → Answers q (whole_of q.opening past book.new) result }
-    ensures stands { (opening : Opening) (past : List Applied) → StandsBehind opening past book.old → IfOk result
-        (λ receipt. StandsInHistory (past ++ book.new.history) receipt.client receipt.tid receipt.place receipt.reply) }
-    ensures reached { (opening : Opening) (past : List Applied) → StandsBehind opening past book.old
-        → LeadsTo client tid [] 19 (receipt_in result) (result_err result)
-        (whole_of opening past book.old) (whole_of opening past book.new) }
+    ensures stands { OfWhole book.old book.new (λ _ new. IfOk result (λ receipt. StandsInHistory new.history
+        receipt.client receipt.tid receipt.place receipt.reply)) }
+    ensures reached { OfWhole book.old book.new (λ old new. LeadsTo client tid [] 19 (receipt_in result) (result_err
+        result) old new) }
     ensures opening { book.new.opening ≡ book.old.opening }
-    ensures goes_on { (opening : Opening) (past : List Applied) → StandsBehind opening past book.old
-        → StandsBehind opening past book.new }
+    ensures goes_on { GoesOn book.old book.new }
     ensures sound { IsSoundKept book.new }
     ensures counted { book.new.core.faults ≡ book.old.core.faults + faults_told (result_err result) }
 {
@@ -145,14 +138,12 @@ fn serve_there<S: Store + Drop>(
         × IsNewAtMaster q rank }
     ensures asked { (q : Question) (past : List Applied) → HasComeBehind q past book.old rank client tid
         → IsNewAtMaster q rank → Answers q (whole_of q.opening past book.new) result }
-    ensures stands { (opening : Opening) (past : List Applied) → StandsBehind opening past book.old → IfOk result
-        (λ receipt. StandsInHistory (past ++ book.new.history) receipt.client receipt.tid receipt.place receipt.reply) }
-    ensures reached { (opening : Opening) (past : List Applied) → StandsBehind opening past book.old
-        → LeadsTo client tid [] 18 (receipt_in result) (result_err result)
-        (whole_of opening past book.old) (whole_of opening past book.new) }
+    ensures stands { OfWhole book.old book.new (λ _ new. IfOk result (λ receipt. StandsInHistory new.history
+        receipt.client receipt.tid receipt.place receipt.reply)) }
+    ensures reached { OfWhole book.old book.new (λ old new. LeadsTo client tid [] 18 (receipt_in result) (result_err
+        result) old new) }
     ensures opening { book.new.opening ≡ book.old.opening }
-    ensures goes_on { (opening : Opening) (past : List Applied) → StandsBehind opening past book.old
-        → StandsBehind opening past book.new }
+    ensures goes_on { GoesOn book.old book.new }
     ensures sound { IsSoundKept book.new }
     ensures counted { book.new.core.faults ≡ book.old.core.faults + faults_told (result_err result) }
 {
@@ -177,14 +168,12 @@ fn serve_granted<S: Store + Drop>(
         × IsNewAtMaster q rank }
     ensures asked { (q : Question) (past : List Applied) → HasComeBehind q past book.old rank client tid
         → IsNewAtMaster q rank → Answers q (whole_of q.opening past book.new) result }
-    ensures stands { (opening : Opening) (past : List Applied) → StandsBehind opening past book.old → IfOk result
-        (λ receipt. StandsInHistory (past ++ book.new.history) receipt.client receipt.tid receipt.place receipt.reply) }
-    ensures reached { (opening : Opening) (past : List Applied) → StandsBehind opening past book.old
-        → LeadsTo client tid [] 17 (receipt_in result) (result_err result)
-        (whole_of opening past book.old) (whole_of opening past book.new) }
+    ensures stands { OfWhole book.old book.new (λ _ new. IfOk result (λ receipt. StandsInHistory new.history
+        receipt.client receipt.tid receipt.place receipt.reply)) }
+    ensures reached { OfWhole book.old book.new (λ old new. LeadsTo client tid [] 17 (receipt_in result) (result_err
+        result) old new) }
     ensures opening { book.new.opening ≡ book.old.opening }
-    ensures goes_on { (opening : Opening) (past : List Applied) → StandsBehind opening past book.old
-        → StandsBehind opening past book.new }
+    ensures goes_on { GoesOn book.old book.new }
     ensures sound { IsSoundKept book.new }
     ensures counted { book.new.core.faults ≡ book.old.core.faults + faults_told (result_err result) }
 {
@@ -216,21 +205,19 @@ pub fn ask_among<S: Store + Drop>(
     request: Request,
 ) -> Among
     requires { waiting_in_all book.old.core.state.inboxes ≤ 1024 }
-    ensures one_thread { (opening : Opening) (past : List Applied) → StandsBehind opening past book.old
-        → IsOneThread book.old.core.state.tree.limit opening (past ++ book.old.history) (past ++ book.new.history)
-        (waiting_in book.old.core.state.inboxes ++ request ∷ []) (result.others.items ++ receipt_in result.answer) }
+    ensures one_thread { OfWhole book.old book.new (λ old new. IsOneThread old.core.state.tree.limit old.opening
+        old.history new.history (waiting_in old.core.state.inboxes ++ request ∷ []) (result.others.items ++ receipt_in
+        result.answer)) }
     ensures in_order { InOrder (places_of book.old)
         (result.others.items ++ receipt_in result.answer) (places_of book.new) }
-    ensures asked { (opening : Opening) (past : List Applied) → StandsBehind opening past book.old
-        → AsksAmong (whole_of opening past book.old) (whole_of opening past book.new) result.others.items rank request
-        result.answer }
+    ensures asked { OfWhole book.old book.new (λ old new. AsksAmong old new result.others.items rank request
+        result.answer) }
     ensures thawed { book.old.core.state.exports ≡ map.empty → result.answer ≢ Err Refusal.Frozen }
-    ensures stands { (opening : Opening) (past : List Applied) → StandsBehind opening past book.old → IfOk result.answer
-        (λ receipt. StandsInHistory (past ++ book.new.history) receipt.client receipt.tid receipt.place receipt.reply) }
+    ensures stands { OfWhole book.old book.new (λ _ new. IfOk result.answer (λ receipt. StandsInHistory new.history
+        receipt.client receipt.tid receipt.place receipt.reply)) }
     ensures few { waiting_in_all book.new.core.state.inboxes ≤ 1024 }
     ensures opening { book.new.opening ≡ book.old.opening }
-    ensures goes_on { (opening : Opening) (past : List Applied) → StandsBehind opening past book.old
-        → StandsBehind opening past book.new }
+    ensures goes_on { GoesOn book.old book.new }
     ensures sound { IsSoundKept book.new }
 {
     let Drained {

@@ -1,14 +1,12 @@
 //! Draining: answering all requests that wait.
 ghost use Rattle.std.specs.Prelude.{◌≡◌, ◌≢◌, ◌⊎◌, ◌-◌, ◌<◌, ◌≤◌, ◌++◌, [], true, cond, vec_capacity, vec_len, List, Ok, Err, IfErr, MatchBool, MatchOption, MatchResult, OnOk};
 ghost use Rattle.std.specs.FinMap as map;
-ghost use Rattle.cluster_core.specs.Opening.{Opening};
-ghost use Rattle.mds_types.specs.declared.entries.Entry.{Entry as Applied};
 ghost use Rattle.cluster_core.specs.OneThread.{InOrder, IsOneThread, receipt_of, waiting_in};
 ghost use Rattle.cluster_core.specs.Runs.{GoesOnFrom};
-ghost use Rattle.cluster_core.specs.Sound.{StandsBehind, IsSoundKept};
-ghost use Rattle.cluster_core.specs.State.{places_of, whole_of};
+ghost use Rattle.cluster_core.specs.Sound.{GoesOn, IsSoundKept, OfWhole};
+ghost use Rattle.cluster_core.specs.State.{places_of};
 ghost use Rattle.asking.specs.Ask.{NoneWaits};
-ghost use Rattle.asking.specs.Drain.{IsLowest, IsStopped, OneLessStrays, OneLessWaits, RoundEnds, forwards, waiting_in_all};
+ghost use Rattle.asking.specs.Drain.{IsLowest, IsStopped, RoundEnds, forwards, waiting_in_all};
 ghost use Rattle.asking.specs.Reached.{ServesWaiting};
 ghost use Rattle.cluster_core.specs.declared.receipts.Receipt.{Receipt as Told};
 
@@ -45,11 +43,9 @@ pub struct Drained {
 /// change a frozen fragment. It never fails `Frozen` if no export exists. The requests before that one are answered.
 pub fn drain<S: Store + Drop>(alloc: Global, book: &mut Book<S>) -> Drained
     requires { waiting_in_all book.old.core.state.inboxes ≤ 1024 }
-    ensures served { (opening : Opening) (past : List Applied) → StandsBehind opening past book.old
-        → ServesWaiting (whole_of opening past book.old) (whole_of opening past book.new) result.receipts.items }
-    ensures one_thread { (opening : Opening) (past : List Applied) → StandsBehind opening past book.old
-        → IsOneThread book.old.core.state.tree.limit opening (past ++ book.old.history) (past ++ book.new.history)
-        (waiting_in book.old.core.state.inboxes) result.receipts.items }
+    ensures served { OfWhole book.old book.new (λ old new. ServesWaiting old new result.receipts.items) }
+    ensures one_thread { OfWhole book.old book.new (λ old new. IsOneThread old.core.state.tree.limit old.opening
+        old.history new.history (waiting_in old.core.state.inboxes) result.receipts.items) }
     ensures in_order { InOrder (places_of book.old) result.receipts.items (places_of book.new) }
     ensures drained { OnOk result.ended (NoneWaits book.new.core.state.inboxes) }
     ensures stopped { IfErr result.ended (IsStopped book.new.core) }
@@ -58,8 +54,7 @@ pub fn drain<S: Store + Drop>(alloc: Global, book: &mut Book<S>) -> Drained
     ensures few { waiting_in_all book.new.core.state.inboxes ≤ 1024 }
     ensures grows { GoesOnFrom book.new.history book.old.history }
     ensures opening { book.new.opening ≡ book.old.opening }
-    ensures goes_on { (opening : Opening) (past : List Applied) → StandsBehind opening past book.old
-        → StandsBehind opening past book.new }
+    ensures goes_on { GoesOn book.old book.new }
     ensures sound { IsSoundKept book.new }
 {
     book.is_sound();
@@ -76,8 +71,7 @@ fn answer_all<S: Store + Drop>(
 ) -> Result<(), Refusal>
     requires few { waiting_in_all book.old.core.state.inboxes ≤ 1024 }
     requires empty { receipts.old.items ≡ [] }
-    ensures served { (opening : Opening) (past : List Applied) → StandsBehind opening past book.old
-        → ServesWaiting (whole_of opening past book.old) (whole_of opening past book.new) receipts.new.items }
+    ensures served { OfWhole book.old book.new (λ old new. ServesWaiting old new receipts.new.items) }
     ensures drained { OnOk result (NoneWaits book.new.core.state.inboxes) }
     ensures stopped { IfErr result (IsStopped book.new.core) }
     ensures thawed { book.old.core.state.exports ≡ map.empty → result ≢ Err Refusal.Frozen }
@@ -85,8 +79,7 @@ fn answer_all<S: Store + Drop>(
     ensures few { waiting_in_all book.new.core.state.inboxes ≤ 1024 }
     ensures grows { GoesOnFrom book.new.history book.old.history }
     ensures opening { book.new.opening ≡ book.old.opening }
-    ensures goes_on { (opening : Opening) (past : List Applied) → StandsBehind opening past book.old
-        → StandsBehind opening past book.new }
+    ensures goes_on { GoesOn book.old book.new }
     ensures sound { IsSoundKept book.new }
 {
     book.is_sound();
@@ -139,14 +132,12 @@ fn play_round<S: Store + Drop>(
     requires few { waiting_in_all book.old.core.state.inboxes ≤ 1024 }
     requires lowest { IsLowest book.old.core.state.inboxes found }
     ensures ends { RoundEnds book.old.core book.new.core result }
-    ensures served { (opening : Opening) (past : List Applied) → StandsBehind opening past book.old
-        → (replies : List Told) × (receipts.new.items ≡ receipts.old.items ++ replies)
-        × ServesWaiting (whole_of opening past book.old) (whole_of opening past book.new) replies }
+    ensures served { OfWhole book.old book.new (λ old new. (replies : List Told) × (receipts.new.items ≡
+        receipts.old.items ++ replies) × ServesWaiting old new replies) }
     ensures exports { book.new.core.state.exports ≡ book.old.core.state.exports }
     ensures grows { GoesOnFrom book.new.history book.old.history }
     ensures opening { book.new.opening ≡ book.old.opening }
-    ensures goes_on { (opening : Opening) (past : List Applied) → StandsBehind opening past book.old
-        → StandsBehind opening past book.new }
+    ensures goes_on { GoesOn book.old book.new }
     ensures sound { IsSoundKept book.new }
 {
     book.is_sound();

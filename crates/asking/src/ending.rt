@@ -1,13 +1,10 @@
 //! Ending an export whose region is frozen, by the next steps of the export itself.
 ghost use Rattle.std.specs.Prelude.{◌≡◌, ◌<◌, ℕ, List, Some, OnOk};
 ghost use Rattle.std.specs.FinMap as map;
-ghost use Rattle.cluster_core.specs.Opening.{Opening};
-ghost use Rattle.mds_types.specs.declared.entries.Entry.{Entry as Applied};
 ghost use Rattle.export_steps.specs.declared.exports.ExportState.TheVariants as at;
 ghost use Rattle.export_steps.specs.Standing.{state_at};
 ghost use Rattle.cluster_core.specs.Exporting.{IsUnsent};
-ghost use Rattle.cluster_core.specs.Sound.{StandsBehind, IsSoundKept};
-ghost use Rattle.cluster_core.specs.State.{whole_of};
+ghost use Rattle.cluster_core.specs.Sound.{GoesOn, IsSoundKept, OfWhole};
 ghost use Rattle.cluster_core.specs.declared.events.Answer.TheVariants.{Sent};
 ghost use Rattle.asking.specs.Ending.{CancelsOr, EndsExport, EndsFrozen, HasEnded, TriesToSend};
 
@@ -32,12 +29,10 @@ pub fn end_export<S: Store + Drop>(
     frag: Frag,
     cancel: bool,
 ) -> Result<(), Refusal>
-    ensures ends { (opening : Opening) (past : List Applied) → StandsBehind opening past book.old
-        → EndsExport cancel (ino, frag) (whole_of opening past book.old) (whole_of opening past book.new) kept.old
-        kept.new result }
+    ensures ends { OfWhole book.old book.new (λ old new. EndsExport cancel (ino, frag) old new kept.old kept.new
+        result) }
     ensures opening { book.new.opening ≡ book.old.opening }
-    ensures goes_on { (opening : Opening) (past : List Applied) → StandsBehind opening past book.old
-        → StandsBehind opening past book.new }
+    ensures goes_on { GoesOn book.old book.new }
     ensures sound { IsSoundKept book.new }
 {
     book.is_sound();
@@ -74,12 +69,10 @@ fn end_frozen<S: Store + Drop>(
     cancel: bool,
 ) -> Result<(), Refusal>
     requires { state_at book.old.core.state.exports (ino, frag) ≡ Some at.Frozen }
-    ensures ends { (opening : Opening) (past : List Applied) → StandsBehind opening past book.old
-        → EndsFrozen cancel (ino, frag) 4 (whole_of opening past book.old) (whole_of opening past book.new) kept.old
-        kept.new result }
+    ensures ends { OfWhole book.old book.new (λ old new. EndsFrozen cancel (ino, frag) 4 old new kept.old kept.new
+        result) }
     ensures opening { book.new.opening ≡ book.old.opening }
-    ensures goes_on { (opening : Opening) (past : List Applied) → StandsBehind opening past book.old
-        → StandsBehind opening past book.new }
+    ensures goes_on { GoesOn book.old book.new }
     ensures sound { IsSoundKept book.new }
 {
     book.is_sound();
@@ -102,12 +95,10 @@ fn end_prepared<S: Store + Drop>(
     cancel: bool,
 ) -> Result<(), Refusal>
     requires { state_at book.old.core.state.exports (ino, frag) ≡ Some at.Prepared }
-    ensures ends { (opening : Opening) (past : List Applied) → StandsBehind opening past book.old
-        → EndsFrozen cancel (ino, frag) 3 (whole_of opening past book.old) (whole_of opening past book.new) kept.old
-        kept.new result }
+    ensures ends { OfWhole book.old book.new (λ old new. EndsFrozen cancel (ino, frag) 3 old new kept.old kept.new
+        result) }
     ensures opening { book.new.opening ≡ book.old.opening }
-    ensures goes_on { (opening : Opening) (past : List Applied) → StandsBehind opening past book.old
-        → StandsBehind opening past book.new }
+    ensures goes_on { GoesOn book.old book.new }
     ensures sound { IsSoundKept book.new }
 {
     book.is_sound();
@@ -128,13 +119,11 @@ fn send<S: Store + Drop>(
     ino: Ino,
     frag: Frag,
 ) -> Result<Answer, Refusal>
-    ensures sends { (opening : Opening) (past : List Applied) → StandsBehind opening past book.old
-        → TriesToSend (ino, frag) (whole_of opening past book.old) (whole_of opening past book.new) result }
+    ensures sends { OfWhole book.old book.new (λ old new. TriesToSend (ino, frag) old new result) }
     ensures room { OnOk result (0 < kept.new.room) }
     ensures bytes { kept.new.bytes ≡ kept.old.bytes }
     ensures opening { book.new.opening ≡ book.old.opening }
-    ensures goes_on { (opening : Opening) (past : List Applied) → StandsBehind opening past book.old
-        → StandsBehind opening past book.new }
+    ensures goes_on { GoesOn book.old book.new }
     ensures sound { IsSoundKept book.new }
 {
     book.is_sound();
@@ -170,12 +159,10 @@ fn end_sent<S: Store + Drop>(
     cancel: bool,
 ) -> Result<(), Refusal>
     requires { state_at book.old.core.state.exports (ino, frag) ≡ Some at.Sent }
-    ensures ends { (opening : Opening) (past : List Applied) → StandsBehind opening past book.old
-        → EndsFrozen cancel (ino, frag) 2 (whole_of opening past book.old) (whole_of opening past book.new) kept.old
-        kept.new result }
+    ensures ends { OfWhole book.old book.new (λ old new. EndsFrozen cancel (ino, frag) 2 old new kept.old kept.new
+        result) }
     ensures opening { book.new.opening ≡ book.old.opening }
-    ensures goes_on { (opening : Opening) (past : List Applied) → StandsBehind opening past book.old
-        → StandsBehind opening past book.new }
+    ensures goes_on { GoesOn book.old book.new }
     ensures sound { IsSoundKept book.new }
 {
     book.is_sound();
@@ -202,12 +189,9 @@ fn finish<S: Store + Drop>(
     cancel: bool,
 )
     requires { state_at book.old.core.state.exports (ino, frag) ≡ Some at.Imported }
-    ensures ends { (opening : Opening) (past : List Applied) → StandsBehind opening past book.old
-        → HasEnded cancel (ino, frag) 1 (whole_of opening past book.old) (whole_of opening past book.new) kept.old
-        kept.new }
+    ensures ends { OfWhole book.old book.new (λ old new. HasEnded cancel (ino, frag) 1 old new kept.old kept.new) }
     ensures opening { book.new.opening ≡ book.old.opening }
-    ensures goes_on { (opening : Opening) (past : List Applied) → StandsBehind opening past book.old
-        → StandsBehind opening past book.new }
+    ensures goes_on { GoesOn book.old book.new }
     ensures sound { IsSoundKept book.new }
 {
     book.is_sound();
@@ -228,11 +212,9 @@ fn unless_cancelled<S: Store + Drop>(
     refusal: Refusal,
 ) -> Result<(), Refusal>
     requires { IsUnsent book.old.core.state (ino, frag) }
-    ensures cancels { (opening : Opening) (past : List Applied) → StandsBehind opening past book.old
-        → CancelsOr cancel (ino, frag) (whole_of opening past book.old) (whole_of opening past book.new) refusal result }
+    ensures cancels { OfWhole book.old book.new (λ old new. CancelsOr cancel (ino, frag) old new refusal result) }
     ensures opening { book.new.opening ≡ book.old.opening }
-    ensures goes_on { (opening : Opening) (past : List Applied) → StandsBehind opening past book.old
-        → StandsBehind opening past book.new }
+    ensures goes_on { GoesOn book.old book.new }
     ensures sound { IsSoundKept book.new }
 {
     book.is_sound();

@@ -1,13 +1,10 @@
 //! The grants of all ranks for one request.
-ghost use Rattle.std.specs.Prelude.{◌≡◌, ◌≢◌, ◌+◌, [], List, Some, MatchResult};
+ghost use Rattle.std.specs.Prelude.{◌≡◌, ◌≢◌, ◌+◌, [], Some, MatchResult};
 ghost use Rattle.std.specs.Result.{result_err};
 ghost use Rattle.objstore.specs.Objects.{faults_told};
-ghost use Rattle.cluster_core.specs.Opening.{Opening};
-ghost use Rattle.mds_types.specs.declared.entries.Entry.{Entry as Applied};
 ghost use Rattle.mds_types.specs.declared.requests.Request.{Request as Asked};
 ghost use Rattle.inboxes.specs.Inboxes.{first_waiting};
-ghost use Rattle.cluster_core.specs.Sound.{StandsBehind, IsSoundKept};
-ghost use Rattle.cluster_core.specs.State.{whole_of};
+ghost use Rattle.cluster_core.specs.Sound.{GoesOn, IsSoundKept, OfWhole};
 ghost use Rattle.asking.specs.GrantsAll.{GrantsEach, GrantsOf};
 ghost use Rattle.asking.specs.Reached.{LeadsTo};
 
@@ -28,13 +25,10 @@ pub fn grant_all<S: Store + Drop>(
 ) -> Result<(), Refusal>
     ensures granted { (request : Asked) → first_waiting client tid book.old.core.state.inboxes ≡ Some request
         → GrantsEach book.old.core book.new.core client tid request.op result }
-    ensures reached { (opening : Opening) (past : List Applied) → StandsBehind opening past book.old
-        → LeadsTo client tid [] 16 [] (result_err result)
-        (whole_of opening past book.old) (whole_of opening past book.new) }
+    ensures reached { OfWhole book.old book.new (λ old new. LeadsTo client tid [] 16 [] (result_err result) old new) }
     ensures history { book.new.history ≡ book.old.history }
     ensures opening { book.new.opening ≡ book.old.opening }
-    ensures goes_on { (opening : Opening) (past : List Applied) → StandsBehind opening past book.old
-        → StandsBehind opening past book.new }
+    ensures goes_on { GoesOn book.old book.new }
     ensures sound { IsSoundKept book.new }
     ensures counted { book.new.core.faults ≡ book.old.core.faults + faults_told (result_err result) }
 {
@@ -57,13 +51,10 @@ fn grant_own<S: Store + Drop>(
 ) -> Result<(), Refusal>
     ensures granted { (request : Asked) → first_waiting client tid book.old.core.state.inboxes ≡ Some request
         → GrantsOf book.old.core book.new.core rank client tid request.op result }
-    ensures reached { (opening : Opening) (past : List Applied) → StandsBehind opening past book.old
-        → LeadsTo client tid [] 1 [] (result_err result)
-        (whole_of opening past book.old) (whole_of opening past book.new) }
+    ensures reached { OfWhole book.old book.new (λ old new. LeadsTo client tid [] 1 [] (result_err result) old new) }
     ensures history { book.new.history ≡ book.old.history }
     ensures opening { book.new.opening ≡ book.old.opening }
-    ensures goes_on { (opening : Opening) (past : List Applied) → StandsBehind opening past book.old
-        → StandsBehind opening past book.new }
+    ensures goes_on { GoesOn book.old book.new }
     ensures sound { IsSoundKept book.new }
     ensures counted { book.new.core.faults ≡ book.old.core.faults + faults_told (result_err result) }
 {

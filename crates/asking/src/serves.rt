@@ -1,13 +1,10 @@
 //! Serving the request at the front of a rank's inbox.
-ghost use Rattle.std.specs.Prelude.{◌≡◌, ◌+◌, ◌++◌, ◌∷◌, [], ℕ, List, Ok, Err};
+ghost use Rattle.std.specs.Prelude.{◌≡◌, ◌+◌, ◌∷◌, [], ℕ, List, Ok, Err};
 ghost use Rattle.std.specs.Result.{result_err};
 ghost use Rattle.objstore.specs.Objects.{faults_told};
-ghost use Rattle.cluster_core.specs.Opening.{Opening};
-ghost use Rattle.mds_types.specs.declared.entries.Entry.{Entry as Applied};
 ghost use Rattle.mds_types.specs.declared.requests.Request.{Request as Asked};
 ghost use Rattle.inboxes.specs.Inboxes.{waiting_at};
-ghost use Rattle.cluster_core.specs.Sound.{StandsBehind, IsSoundKept};
-ghost use Rattle.cluster_core.specs.State.{whole_of};
+ghost use Rattle.cluster_core.specs.Sound.{GoesOn, IsSoundKept, OfWhole};
 ghost use Rattle.asking.specs.Reached.{LeadsTo};
 ghost use Rattle.asking.specs.Serves.{StandsFor, IsOfServe, ServesTo, SomeWaits, receipts_in, told_of};
 
@@ -35,18 +32,14 @@ pub(crate) fn serve<S: Store + Drop>(
     rank: Rank,
 ) -> Result<Served, Refusal>
     requires { SomeWaits book.old.core.state.inboxes rank }
-    ensures served { (opening : Opening) (past : List Applied) → StandsBehind opening past book.old
-        → (request : Asked) (rest : List Asked) → waiting_at book.old.core.state.inboxes rank ≡ request ∷ rest
-        → ServesTo book.old.core book.new.core (past ++ book.old.history) (past ++ book.new.history) rank request rest
-        result }
-    ensures stands { (opening : Opening) (past : List Applied) → StandsBehind opening past book.old
-        → StandsFor (past ++ book.new.history) result }
-    ensures reached { (opening : Opening) (past : List Applied) → StandsBehind opening past book.old → (client tid : ℕ)
-        → LeadsTo client tid [] 1 (receipts_in result) (result_err result)
-        (whole_of opening past book.old) (whole_of opening past book.new) }
+    ensures served { OfWhole book.old book.new (λ old new. (request : Asked) (rest : List Asked) → waiting_at
+        old.core.state.inboxes rank ≡ request ∷ rest → ServesTo old.core new.core old.history new.history rank request
+        rest result) }
+    ensures stands { OfWhole book.old book.new (λ _ new. StandsFor new.history result) }
+    ensures reached { OfWhole book.old book.new (λ old new. (client tid : ℕ) → LeadsTo client tid [] 1 (receipts_in
+        result) (result_err result) old new) }
     ensures opening { book.new.opening ≡ book.old.opening }
-    ensures goes_on { (opening : Opening) (past : List Applied) → StandsBehind opening past book.old
-        → StandsBehind opening past book.new }
+    ensures goes_on { GoesOn book.old book.new }
     ensures sound { IsSoundKept book.new }
     ensures counted { book.new.core.faults ≡ book.old.core.faults + faults_told (result_err result) }
 {

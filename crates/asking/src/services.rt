@@ -1,12 +1,12 @@
 //! A service: a book that is only asked, and in which no request is left waiting.
-ghost use Rattle.std.specs.Prelude.{◌≡◌, ◌≢◌, ◌++◌, ◌∷◌, [], true, List, None, Err, IfErr, IfOk, MatchResult, OnErr, OnOk};
+ghost use Rattle.std.specs.Prelude.{◌≡◌, ◌≢◌, ◌∷◌, [], true, List, None, Err, IfErr, IfOk, MatchResult, OnErr, OnOk};
 ghost use Rattle.std.specs.FinMap as map;
 ghost use Rattle.cluster_core.specs.Opening.{Opening};
 ghost use Rattle.mds_types.specs.declared.entries.Entry.{Entry as Applied};
 ghost use Rattle.cluster_core.specs.Flush.{Flushes, IsColdTree};
 ghost use Rattle.cluster_core.specs.KeptSessions.{KeepsSessions, with_stored};
 ghost use Rattle.cluster_core.specs.OneThread.{InOrder, IsOneThread, StandsInHistory, arrival};
-ghost use Rattle.cluster_core.specs.Sound.{StandsBehind, IsSoundKept};
+ghost use Rattle.cluster_core.specs.Sound.{GoesOn, IsSoundKept, OfWhole, StandsBehind};
 ghost use Rattle.cluster_core.specs.State.{places_of, shown};
 ghost use Rattle.cluster_core.specs.Steps.{Steps};
 ghost use Rattle.cluster_core.specs.Uses.{UsesStep};
@@ -43,20 +43,18 @@ pub fn ask_once<S: Store + Drop>(
     request: Request,
 ) -> Result<Receipt, Refusal>
     requires { NoneWaits book.old.core.state.inboxes }
-    ensures one_thread { (opening : Opening) (past : List Applied) → StandsBehind opening past book.old
-        → IsOneThread book.old.core.state.tree.limit opening (past ++ book.old.history) (past ++ book.new.history)
-        (request ∷ []) (receipt_in result) }
+    ensures one_thread { OfWhole book.old book.new (λ old new. IsOneThread old.core.state.tree.limit old.opening
+        old.history new.history (request ∷ []) (receipt_in result)) }
     ensures in_order { InOrder (places_of book.old) (receipt_in result) (places_of book.new) }
-    ensures asked { (opening : Opening) (past : List Applied) → StandsBehind opening past book.old
-        → AsksOnce book.old.core book.new.core (past ++ book.old.history) (past ++ book.new.history) rank request result }
+    ensures asked { OfWhole book.old book.new (λ old new. AsksOnce old.core new.core old.history new.history rank
+        request result) }
     ensures thawed { book.old.core.state.exports ≡ map.empty → result ≢ Err Refusal.Frozen }
     ensures none { NoneWaits book.new.core.state.inboxes }
-    ensures stands { (opening : Opening) (past : List Applied) → StandsBehind opening past book.old → IfOk result
-        (λ receipt. StandsInHistory (past ++ book.new.history) receipt.client receipt.tid receipt.place receipt.reply) }
+    ensures stands { OfWhole book.old book.new (λ _ new. IfOk result (λ receipt. StandsInHistory new.history
+        receipt.client receipt.tid receipt.place receipt.reply)) }
     ensures limit { book.new.core.state.tree.limit ≡ book.old.core.state.tree.limit }
     ensures opening { book.new.opening ≡ book.old.opening }
-    ensures goes_on { (opening : Opening) (past : List Applied) → StandsBehind opening past book.old
-        → StandsBehind opening past book.new }
+    ensures goes_on { GoesOn book.old book.new }
     ensures sound { IsSoundKept book.new }
 {
     book.is_sound();
@@ -74,8 +72,7 @@ pub fn ask_once<S: Store + Drop>(
 fn leave<S: Store + Drop>(book: &mut Book<S>)
     ensures left { Leaves book.old book.new }
     ensures opening { book.new.opening ≡ book.old.opening }
-    ensures goes_on { (opening : Opening) (past : List Applied) → StandsBehind opening past book.old
-        → StandsBehind opening past book.new }
+    ensures goes_on { GoesOn book.old book.new }
     ensures sound { IsSoundKept book.new }
 {
     book.is_sound();
@@ -148,8 +145,7 @@ impl<S: Store + Drop> Service<S> {
         ensures gone { self.new.book.opening ≡ None }
         ensures history { self.new.book.history ≡ self.old.book.history }
         ensures core { self.new.book.core ≡ self.old.book.core }
-        ensures goes_on { (opening : Opening) (past : List Applied) → StandsBehind opening past self.old.book
-            → StandsBehind opening past self.new.book }
+        ensures goes_on { GoesOn self.old.book self.new.book }
     {
         self.book.drop_opening();
     }
@@ -157,14 +153,12 @@ impl<S: Store + Drop> Service<S> {
     /// Makes one step of the book, for an event that brings no request, such as an administrator's.
     pub fn step(&mut self, alloc: Global, event: Event) -> Result<Answer, Refusal>
         requires { arrival event ≡ [] }
-        ensures stepped { (opening : Opening) (past : List Applied) → StandsBehind opening past self.old.book
-            → Steps self.old.book.core self.new.book.core (past ++ self.old.book.history)
-            (past ++ self.new.book.history) result event }
+        ensures stepped { OfWhole self.old.book self.new.book (λ old new. Steps old.core new.core old.history
+            new.history result event) }
         ensures uses { UsesStep self.old.book.core self.new.book.core result event }
         ensures silent { self.new.book.history ≡ self.old.book.history }
         ensures limit { self.new.book.core.state.tree.limit ≡ self.old.book.core.state.tree.limit }
-        ensures goes_on { (opening : Opening) (past : List Applied) → StandsBehind opening past self.old.book
-            → StandsBehind opening past self.new.book }
+        ensures goes_on { GoesOn self.old.book self.new.book }
         ensures opening { self.new.book.opening ≡ self.old.book.opening }
     {
         self.book.is_sound();
@@ -176,8 +170,7 @@ impl<S: Store + Drop> Service<S> {
         ensures cold { OnOk result
             (IsColdTree self.new.book.core.state.tree.objects (shown self.old.book.core.state)) }
         ensures outcome { Flushes self.old.book self.new.book result }
-        ensures goes_on { (opening : Opening) (past : List Applied) → StandsBehind opening past self.old.book
-            → StandsBehind opening past self.new.book }
+        ensures goes_on { GoesOn self.old.book self.new.book }
     {
         flush(rt, alloc, &mut self.book)
     }
@@ -232,8 +225,7 @@ impl<S: Keep + Drop> Service<S> {
         ensures same { OnErr result (self.new.book ≡ self.old.book) }
         ensures sessions { S.has_rows ≡ true
             → IfOk result (λ s. KeepsSessions self.old.book (λ edits. S.Takes s.0.value edits s.1.value)) }
-        ensures goes_on { (opening : Opening) (past : List Applied) → StandsBehind opening past self.old.book
-            → StandsBehind opening past self.new.book }
+        ensures goes_on { GoesOn self.old.book self.new.book }
         ensures failed { IfErr result (λ _. S.may_fail) }
     {
         match self.book.keep() {

@@ -1,10 +1,8 @@
 //! Asking through exports: an export whose frozen region a request would change is ended first.
-ghost use Rattle.std.specs.Prelude.{◌≡◌, ◌≢◌, ◌++◌, ◌∷◌, [], List, Err, IfOk, MatchOption, MatchResult};
-ghost use Rattle.cluster_core.specs.Opening.{Opening};
-ghost use Rattle.mds_types.specs.declared.entries.Entry.{Entry as Applied};
+ghost use Rattle.std.specs.Prelude.{◌≡◌, ◌≢◌, ◌∷◌, [], Err, IfOk, MatchOption, MatchResult};
 ghost use Rattle.cluster_core.specs.OneThread.{InOrder, IsOneThread, StandsInHistory};
-ghost use Rattle.cluster_core.specs.Sound.{StandsBehind, IsSoundKept};
-ghost use Rattle.cluster_core.specs.State.{places_of, whole_of};
+ghost use Rattle.cluster_core.specs.Sound.{GoesOn, IsSoundKept, OfWhole};
+ghost use Rattle.cluster_core.specs.State.{places_of};
 ghost use Rattle.asking.specs.Ask.{NoneWaits};
 ghost use Rattle.asking.specs.Ending.{HasAllBytes, IsFreezing, NoneFreezing, NoneFreezingOf};
 ghost use Rattle.asking.specs.Reached.{receipt_in};
@@ -35,21 +33,18 @@ pub fn ask_through<S: Store + Drop>(
     cancel: bool,
 ) -> Result<Receipt, Refusal>
     requires { NoneWaits book.old.core.state.inboxes }
-    ensures one_thread { (opening : Opening) (past : List Applied) → StandsBehind opening past book.old
-        → IsOneThread book.old.core.state.tree.limit opening (past ++ book.old.history) (past ++ book.new.history)
-        (request ∷ []) (receipt_in result) }
+    ensures one_thread { OfWhole book.old book.new (λ old new. IsOneThread old.core.state.tree.limit old.opening
+        old.history new.history (request ∷ []) (receipt_in result)) }
     ensures in_order { InOrder (places_of book.old) (receipt_in result) (places_of book.new) }
-    ensures asked { (opening : Opening) (past : List Applied) → StandsBehind opening past book.old
-        → AsksThrough cancel rank request (whole_of opening past book.old) (whole_of opening past book.new) kept.old
-        kept.new result }
+    ensures asked { OfWhole book.old book.new (λ old new. AsksThrough cancel rank request old new kept.old kept.new
+        result) }
     ensures thawed { HasAllBytes book.old.core.state kept.old → result ≡ Err Refusal.Frozen → CantSend cancel book.new.core.state }
     ensures none { NoneWaits book.new.core.state.inboxes }
-    ensures stands { (opening : Opening) (past : List Applied) → StandsBehind opening past book.old → IfOk result
-        (λ receipt. StandsInHistory (past ++ book.new.history) receipt.client receipt.tid receipt.place receipt.reply) }
+    ensures stands { OfWhole book.old book.new (λ _ new. IfOk result (λ receipt. StandsInHistory new.history
+        receipt.client receipt.tid receipt.place receipt.reply)) }
     ensures limit { book.new.core.state.tree.limit ≡ book.old.core.state.tree.limit }
     ensures opening { book.new.opening ≡ book.old.opening }
-    ensures goes_on { (opening : Opening) (past : List Applied) → StandsBehind opening past book.old
-        → StandsBehind opening past book.new }
+    ensures goes_on { GoesOn book.old book.new }
     ensures sound { IsSoundKept book.new }
 {
     book.is_sound();
@@ -82,19 +77,16 @@ fn ask_copy<S: Store + Drop>(
     request: &Request,
 ) -> Result<Receipt, Refusal>
     requires { NoneWaits book.old.core.state.inboxes }
-    ensures one_thread { (opening : Opening) (past : List Applied) → StandsBehind opening past book.old
-        → IsOneThread book.old.core.state.tree.limit opening (past ++ book.old.history) (past ++ book.new.history)
-        (request.now ∷ []) (receipt_in result) }
+    ensures one_thread { OfWhole book.old book.new (λ old new. IsOneThread old.core.state.tree.limit old.opening
+        old.history new.history (request.now ∷ []) (receipt_in result)) }
     ensures in_order { InOrder (places_of book.old) (receipt_in result) (places_of book.new) }
-    ensures asked { (opening : Opening) (past : List Applied) → StandsBehind opening past book.old
-        → AsksCopy (whole_of opening past book.old) (whole_of opening past book.new) rank request.now result }
+    ensures asked { OfWhole book.old book.new (λ old new. AsksCopy old new rank request.now result) }
     ensures none { NoneWaits book.new.core.state.inboxes }
-    ensures stands { (opening : Opening) (past : List Applied) → StandsBehind opening past book.old → IfOk result
-        (λ receipt. StandsInHistory (past ++ book.new.history) receipt.client receipt.tid receipt.place receipt.reply) }
+    ensures stands { OfWhole book.old book.new (λ _ new. IfOk result (λ receipt. StandsInHistory new.history
+        receipt.client receipt.tid receipt.place receipt.reply)) }
     ensures limit { book.new.core.state.tree.limit ≡ book.old.core.state.tree.limit }
     ensures opening { book.new.opening ≡ book.old.opening }
-    ensures goes_on { (opening : Opening) (past : List Applied) → StandsBehind opening past book.old
-        → StandsBehind opening past book.new }
+    ensures goes_on { GoesOn book.old book.new }
     ensures sound { IsSoundKept book.new }
 {
     book.is_sound();

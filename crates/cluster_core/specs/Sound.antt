@@ -17,7 +17,7 @@ use Rattle.mdcache.specs.State.{State as TreeState}
 use Rattle.sessions.specs.Aside.{AreSetAside}
 use Rattle.sessions.specs.Table.{IsTableOf}
 use Rattle.cluster_core.specs.Master.{IsFrozenAt}
-use Rattle.cluster_core.specs.State.{Core, BookState, KeptState, held_roots, no_supply, shown}
+use Rattle.cluster_core.specs.State.{Core, BookState, KeptState, held_roots, no_supply, shown, whole_of}
 use Rattle.ranked_tree.specs.Held.{AreHeld}
 use Rattle.ranked_tree.specs.Subtrees.{AreRoots}
 
@@ -101,6 +101,16 @@ pub record IsSoundBehind (opening : Opening) (past history : List Entry) (core :
 pub record StandsBehind (opening : Opening) (past : List Entry) (book : KeptState) : Type 0 where
   pub opened : IfSome book.opening (λ tree. tree ≡ opening.tree)
   pub behind : IsSoundBehind opening past book.history book.core
+
+-- whatever opening and forgotten past a book went on from, it goes on from them
+abbrev pub GoesOn : (old new : KeptState) → Type 0
+GoesOn old new = (opening : Opening) (past : List Entry) → StandsBehind opening past old → StandsBehind opening past new
+
+-- whatever opening and forgotten past a book went on from, this holds of the whole book, before and after
+abbrev pub OfWhole : (old new : KeptState) → (Holds : (old new : BookState) → Type 0) → Type 0
+OfWhole old new Holds =
+    (opening : Opening) (past : List Entry) → StandsBehind opening past old
+    → Holds (whole_of opening past old) (whole_of opening past new)
 
 -- every book goes on from some opening tree and some past
 abbrev pub IsSoundKept : KeptState → Type 0

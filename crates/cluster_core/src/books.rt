@@ -1,8 +1,7 @@
 //! The book: a cluster with the history of what it answered.
-ghost use Rattle.std.specs.Prelude.{◌≡◌, ◌+◌, ◌≤◌, ◌++◌, [], List, Some, option_copied, Contains, IfOk, IfErr, OnOk};
+ghost use Rattle.std.specs.Prelude.{◌≡◌, ◌+◌, ◌≤◌, ◌++◌, [], Some, option_copied, Contains, IfOk, IfErr, OnOk};
 ghost use Rattle.std.specs.List.{AllByRecursion};
-ghost use Rattle.mds_types.specs.declared.entries.Entry.{Entry as Applied};
-ghost use Rattle.cluster_core.specs.Opening.{Opening, fresh, after_from};
+ghost use Rattle.cluster_core.specs.Opening.{fresh, after_from};
 ghost use Rattle.std.specs.FinMap as map;
 ghost use Rattle.objstore.specs.Objects.{faults_in};
 ghost use Rattle.mdcache.specs.New.{MayNotFormat, new_caches};
@@ -10,7 +9,7 @@ ghost use Rattle.cluster_core.specs.Fragments.{LieAtHolder};
 ghost use Rattle.cluster_core.specs.OneThread.{InOrder, IsOneThread, arrival, receipt_of, waiting_in};
 ghost use Rattle.cluster_core.specs.State.{new_state, places_of, shown};
 ghost use Rattle.cluster_core.specs.Steps.{Steps};
-ghost use Rattle.cluster_core.specs.Sound.{StandsBehind, IsSoundKept};
+ghost use Rattle.cluster_core.specs.Sound.{GoesOn, IsSoundKept, OfWhole, StandsBehind};
 ghost use Rattle.cluster_core.specs.Uses.{UsesStep};
 
 use crate::clusters::Cluster;
@@ -95,19 +94,17 @@ impl<S: Store + Drop> Book<S> {
     /// each event does to the state, the last how it uses the caches.
     #[inline(always)]
     pub fn step(&mut self, alloc: Global, event: Event) -> Result<Answer, Refusal>
-        ensures one_thread { (opening : Opening) (past : List Applied) → StandsBehind opening past self.old
-            → IsOneThread self.old.core.state.tree.limit opening (past ++ self.old.history) (past ++ self.new.history)
-            (waiting_in self.old.core.state.inboxes ++ arrival event) (receipt_of result) }
+        ensures one_thread { OfWhole self.old self.new (λ old new. IsOneThread old.core.state.tree.limit old.opening
+            old.history new.history (waiting_in old.core.state.inboxes ++ arrival event) (receipt_of result)) }
         ensures in_order { InOrder (places_of self.old) (receipt_of result) (places_of self.new) }
         ensures waits { AllByRecursion (Contains (waiting_in self.old.core.state.inboxes ++ arrival event))
             (waiting_in self.new.core.state.inboxes) }
-        ensures shows { (opening : Opening) (past : List Applied) → StandsBehind opening past self.old
-            → shown self.new.core.state ≡ after_from self.old.core.state.tree.limit opening (past ++ self.new.history) }
-        ensures stepped { (opening : Opening) (past : List Applied) → StandsBehind opening past self.old
-            → Steps self.old.core self.new.core (past ++ self.old.history) (past ++ self.new.history) result event }
+        ensures shows { OfWhole self.old self.new (λ old new. shown new.core.state ≡ after_from
+            old.core.state.tree.limit old.opening new.history) }
+        ensures stepped { OfWhole self.old self.new (λ old new. Steps old.core new.core old.history new.history result
+            event) }
         ensures uses { UsesStep self.old.core self.new.core result event }
-        ensures goes_on { (opening : Opening) (past : List Applied) → StandsBehind opening past self.old
-            → StandsBehind opening past self.new }
+        ensures goes_on { GoesOn self.old self.new }
         ensures opening { self.new.opening ≡ self.old.opening }
         ensures limit { self.new.core.state.tree.limit ≡ self.old.core.state.tree.limit }
         ensures sound { IsSoundKept self.new }

@@ -1,12 +1,10 @@
 //! A flush: writing all that the store doesn't have yet.
-ghost use Rattle.std.specs.Prelude.{◌≡◌, ◌+◌, ◌≤◌, ◌↔◌, IsTrue, List, length, OnOk, IfErr};
+ghost use Rattle.std.specs.Prelude.{◌≡◌, ◌+◌, ◌≤◌, ◌↔◌, IsTrue, length, OnOk, IfErr};
 ghost use Rattle.std.specs.FinMap as map;
 ghost use Rattle.std.specs.Result.{result_err};
-ghost use Rattle.cluster_core.specs.Opening.{Opening};
-ghost use Rattle.mds_types.specs.declared.entries.Entry.{Entry as Applied};
 ghost use Rattle.objstore.specs.Objects.{faults_told};
 ghost use Rattle.cluster_core.specs.Flush.{AreExact, Flushes, IsColdTree, KeepsCore, MayNotFlush};
-ghost use Rattle.cluster_core.specs.Sound.{AreCached, AreExported, StandsBehind, IsSoundKept, IsSoundWith};
+ghost use Rattle.cluster_core.specs.Sound.{AreCached, AreExported, GoesOn, IsSoundKept, IsSoundWith};
 ghost use Rattle.cluster_core.specs.State.{shown};
 
 use crate::books::Book;
@@ -65,8 +63,7 @@ pub fn flush<S: Store + Drop>(
     ensures purged { OnOk result (book.new.core.state.tree.purge ≡ map.empty) }
     ensures outcome { Flushes book.old book.new result }
     ensures counted { book.new.core.faults ≡ book.old.core.faults + faults_told (result_err result) }
-    ensures goes_on { (opening : Opening) (past : List Applied) → StandsBehind opening past book.old
-        → StandsBehind opening past book.new }
+    ensures goes_on { GoesOn book.old book.new }
     ensures sound { IsSoundKept book.new }
 {
     if !book.cluster.has_no_export() {

@@ -1,10 +1,8 @@
 //! Whole runs of a book.
-ghost use Rattle.std.specs.Prelude.{◌≡◌, ◌+◌, ◌<◌, ◌≤◌, ◌++◌, ◌∷◌, [], List, vec_len, vec_capacity, Contains, IfErr, IfOk, OnOk};
+ghost use Rattle.std.specs.Prelude.{◌≡◌, ◌+◌, ◌<◌, ◌≤◌, ◌++◌, ◌∷◌, [], vec_len, vec_capacity, Contains, IfErr, IfOk, OnOk};
 ghost use Rattle.std.specs.List.{AllByRecursion};
-ghost use Rattle.cluster_core.specs.Sound.{StandsBehind, IsSoundKept};
-ghost use Rattle.cluster_core.specs.State.{places_of, whole_of};
-ghost use Rattle.cluster_core.specs.Opening.{Opening};
-ghost use Rattle.mds_types.specs.declared.entries.Entry.{Entry as Applied};
+ghost use Rattle.cluster_core.specs.Sound.{GoesOn, IsSoundKept, OfWhole};
+ghost use Rattle.cluster_core.specs.State.{places_of};
 ghost use Rattle.cluster_core.specs.OneThread.{InOrder, IsOneThread, IsOneThreadThroughout, arrivals, receipts_of, waiting_in};
 ghost use Rattle.cluster_core.specs.Runs.{IsRun};
 
@@ -22,24 +20,21 @@ pub fn run<S: Store + Drop>(
     book: &mut Book<S>,
     events: Vec<Event>,
 ) -> Result<Vec<Result<Answer, Refusal>>, Refusal>
-    ensures one_thread { (opening : Opening) (past : List Applied) → StandsBehind opening past book.old → IfOk result
-        (λ results. IsOneThread book.old.core.state.tree.limit opening (past ++ book.old.history)
-        (past ++ book.new.history) (waiting_in book.old.core.state.inboxes ++ arrivals events.items)
-        (receipts_of results.items)) }
+    ensures one_thread { OfWhole book.old book.new (λ old new. IfOk result (λ results. IsOneThread
+        old.core.state.tree.limit old.opening old.history new.history (waiting_in old.core.state.inboxes ++ arrivals
+        events.items) (receipts_of results.items))) }
     ensures in_order { IfOk result
         (λ results. InOrder (places_of book.old) (receipts_of results.items) (places_of book.new)) }
     ensures waits { OnOk result
         (AllByRecursion (Contains (waiting_in book.old.core.state.inboxes ++ arrivals events.items))
         (waiting_in book.new.core.state.inboxes)) }
-    ensures throughout { (opening : Opening) (past : List Applied) → StandsBehind opening past book.old → IfOk result
-        (λ results. IsOneThreadThroughout book.old.core.state.tree.limit opening (past ++ book.old.history)
-        (past ++ book.new.history) (waiting_in book.old.core.state.inboxes) events.items results.items) }
-    ensures ran { (opening : Opening) (past : List Applied) → StandsBehind opening past book.old → IfOk result
-        (λ results. IsRun (whole_of opening past book.old) events.items results.items
-        (whole_of opening past book.new)) }
+    ensures throughout { OfWhole book.old book.new (λ old new. IfOk result (λ results. IsOneThreadThroughout
+        old.core.state.tree.limit old.opening old.history new.history (waiting_in old.core.state.inboxes) events.items
+        results.items)) }
+    ensures ran { OfWhole book.old book.new (λ old new. IfOk result (λ results. IsRun old events.items results.items
+        new)) }
     ensures refused { IfErr result (λ reason. (reason ≡ Refusal.NoMemory) × (book.new ≡ book.old)) }
-    ensures goes_on { (opening : Opening) (past : List Applied) → StandsBehind opening past book.old
-        → StandsBehind opening past book.new }
+    ensures goes_on { GoesOn book.old book.new }
     ensures opening { book.new.opening ≡ book.old.opening }
     ensures sound { IsSoundKept book.new }
 {

@@ -1,10 +1,9 @@
 //! Saving the tree after the history on disk.
-ghost use Rattle.std.specs.Prelude.{◌≡◌, ◌++◌, List, IfOk, IfSome};
+ghost use Rattle.std.specs.Prelude.{IfOk, IfSome};
 ghost use Rattle.mds_types.specs.Tree.{Tree};
-ghost use Rattle.mds_types.specs.declared.entries.Entry.{Entry as Applied};
 ghost use Rattle.cold_store.specs.ColdTree.{IsColdTree};
-ghost use Rattle.cluster_core.specs.Opening.{Opening, after_from};
-ghost use Rattle.cluster_core.specs.Sound.{StandsBehind, IsSoundKept};
+ghost use Rattle.cluster_core.specs.Opening.{after_from};
+ghost use Rattle.cluster_core.specs.Sound.{GoesOn, IsSoundKept, OfWhole};
 ghost use Rattle.kept_store.specs.Kept.{TakesEdits};
 ghost use Rattle.sqlite_trees.specs.View.{IsClean};
 ghost use Rattle.kept_book.specs.Saves.{Saves};
@@ -41,13 +40,11 @@ pub fn save<T: Settle + Drop>(
     alloc: Global,
     book: &mut Book<Kept<T>>,
 ) -> Result<(Snapshot<Kept<T>>, Snapshot<Kept<T>>), Unsaved>
-    ensures on_disk { (opening : Opening) (past : List Applied) → StandsBehind opening past book.old → IfOk result
-        (λ s. IsClean (T.Store.view s.1.value.tables) → IsOnDisk (T.Store.recovers s.1.value.tables)
-        (after_from book.old.core.state.tree.limit opening (past ++ book.old.history))) }
+    ensures on_disk { OfWhole book.old book.new (λ old _. IfOk result (λ s. IsClean (T.Store.view s.1.value.tables) →
+        IsOnDisk (T.Store.recovers s.1.value.tables) (after_from old.core.state.tree.limit old.opening old.history))) }
     ensures saves { Saves (λ s edits. TakesEdits T.Store.view T.Store.recovers s.0.value edits s.1.value)
         book.old book.new result }
-    ensures goes_on { (opening : Opening) (past : List Applied) → StandsBehind opening past book.old
-        → StandsBehind opening past book.new }
+    ensures goes_on { GoesOn book.old book.new }
     ensures sound { IsSoundKept book.new }
 {
     if let Err(refusal) = flush(rt, alloc, book) {

@@ -1,14 +1,12 @@
 //! The book and its count of shares, which one lock guards.
-ghost use Rattle.std.specs.Prelude.{Result, None, ◌≡◌, ◌+◌, ◌<◌, ◌++◌, List, [], Contains, cond, length, take};
+ghost use Rattle.std.specs.Prelude.{Result, None, ◌≡◌, ◌+◌, ◌<◌, List, [], Contains, cond, length, take};
 ghost use Rattle.std.specs.List.{AllByRecursion};
 ghost use Rattle.std.specs.Coded.{codes};
 ghost use Rattle.std.specs.FinMap as map;
-ghost use Rattle.mds_types.specs.declared.entries.Entry.{Entry as Applied};
 ghost use Rattle.mds_types.specs.declared.requests.Request.{Request as Asked};
-ghost use Rattle.cluster_core.specs.Opening.{Opening};
 ghost use Rattle.cluster_core.specs.OneThread.{IsAskedFor, arrival, receipt_of};
-ghost use Rattle.cluster_core.specs.Sound.{StandsBehind, IsSoundKept};
-ghost use Rattle.cluster_core.specs.State.{KeptState, new_caches, new_state, places_of, whole_of};
+ghost use Rattle.cluster_core.specs.Sound.{IsSoundKept, OfWhole};
+ghost use Rattle.cluster_core.specs.State.{KeptState, new_caches, new_state, places_of};
 ghost use Rattle.cluster_core.specs.declared.events.Event.TheVariants.{CommitBegin, CommitDrop, CommitEnd};
 ghost use Rattle.rank_threads.specs.Continued.{Continues, StaysBehind};
 ghost use Rattle.rank_threads.specs.OneStep.{IsOneStep, IsStepTold, done_of, job_of};
@@ -75,8 +73,7 @@ impl<S: Store + Drop, L: Handed> Desk<S, L> {
         ensures parts { mine.new.parts ≡ mine.old.parts }
         ensures amount { mine.new.amount ≡ mine.old.amount + first_in result }
         ensures asked_for { ∥ AllByRecursion (IsAskedFor L.sent) (receipt_of result) ∥₁ }
-        ensures stepped { (opening : Opening) (past : List Applied) → StandsBehind opening past self.old.book
-            → IsOneStep (whole_of opening past self.old.book) (whole_of opening past self.new.book) event result }
+        ensures stepped { OfWhole self.old.book self.new.book (λ old new. IsOneStep old new event result) }
         ensures sound { IsSoundKept self.old.book }
     {
         let Desk { book, total } = self;
@@ -98,9 +95,8 @@ impl<S: Store + Drop, L: Handed> Desk<S, L> {
         ino: Ino,
         frag: Frag,
     ) -> Result<Option<Job>, Refusal>
-        ensures told { (opening : Opening) (past : List Applied) → StandsBehind opening past self.old.book
-            → IsStepTold (whole_of opening past self.old.book) (whole_of opening past self.new.book)
-            (CommitBegin rank ino frag) job_of result }
+        ensures told { OfWhole self.old.book self.new.book (λ old new. IsStepTold old new (CommitBegin rank ino frag)
+            job_of result) }
         ensures sound { IsSoundKept self.old.book }
     {
         self.book.is_sound();
@@ -120,9 +116,8 @@ impl<S: Store + Drop, L: Handed> Desk<S, L> {
     /// Ends the commit of an encoded job. The history doesn't change.
     #[tactic(auto, using(crate::proofs::StepLaws::made_step))]
     pub(crate) fn end(&mut self, alloc: Global, encoded: Encoded) -> Result<(), Refusal>
-        ensures { (opening : Opening) (past : List Applied) → StandsBehind opening past self.old.book
-            → IsStepTold (whole_of opening past self.old.book) (whole_of opening past self.new.book)
-            (CommitEnd encoded) done_of result }
+        ensures { OfWhole self.old.book self.new.book (λ old new. IsStepTold old new (CommitEnd encoded) done_of
+            result) }
     {
         self.book.is_sound();
         done(self.book.step(alloc, Event::CommitEnd(encoded)))

@@ -1,13 +1,11 @@
 //! The steps that a rank proposes and makes itself.
-ghost use Rattle.std.specs.Prelude.{◌≡◌, List, Ok, Some};
+ghost use Rattle.std.specs.Prelude.{◌≡◌, Ok, Some};
 ghost use Rattle.std.specs.FinMap as map;
 ghost use Rattle.cluster_core.specs.declared.events.Event.TheVariants.{Send};
 ghost use Rattle.cluster_core.specs.Proposal.{Proposes};
 ghost use Rattle.cluster_core.specs.SentBytes.{none_sent};
-ghost use Rattle.cluster_core.specs.Sound.{StandsBehind, IsSoundKept};
-ghost use Rattle.cluster_core.specs.State.{Core, whole_of};
-ghost use Rattle.cluster_core.specs.Opening.{Opening};
-ghost use Rattle.mds_types.specs.declared.entries.Entry.{Entry as Applied};
+ghost use Rattle.cluster_core.specs.Sound.{IsSoundKept, OfWhole};
+ghost use Rattle.cluster_core.specs.State.{Core};
 ghost use Rattle.rank_threads.specs.OneStep.{answer_of};
 ghost use Rattle.rank_threads.specs.OwnTurn.{KeepsBytes, StepsOwn, TakesOwnTurn, import_with, step_of};
 
@@ -55,9 +53,8 @@ impl<S: Store + Drop, L: Handed> Desk<S, L> {
     #[tactic(auto, using(crate::proofs::OwnTurnLaws::took_behind))]
     pub(crate) fn own(&mut self, alloc: Global, own: &mut OwnTurns) -> Result<bool, Refusal>
         ensures rank { own.new.rank ≡ own.old.rank }
-        ensures turn { (opening : Opening) (past : List Applied) → StandsBehind opening past self.old.book
-            → TakesOwnTurn (whole_of opening past self.old.book) (whole_of opening past self.new.book) own.old.rank
-            own.old.kept.bytes own.new.kept.bytes result }
+        ensures turn { OfWhole self.old.book self.new.book (λ old new. TakesOwnTurn old new own.old.rank
+            own.old.kept.bytes own.new.kept.bytes result) }
         ensures sound { IsSoundKept self.old.book }
     {
         self.book.is_sound();
@@ -72,9 +69,8 @@ impl<S: Store + Drop, L: Handed> Desk<S, L> {
     #[tactic(auto, using(crate::proofs::OwnTurnLaws::made_other, crate::proofs::StepLaws::made_step))]
     fn make(&mut self, alloc: Global, kept: &mut KeptBytes, event: Event) -> Result<bool, Refusal>
         requires { (core : Core) × (rank : Rank) × Proposes core rank (Ok (Some event)) }
-        ensures { (opening : Opening) (past : List Applied) → StandsBehind opening past self.old.book
-            → StepsOwn (whole_of opening past self.old.book) (whole_of opening past self.new.book)
-            kept.old.bytes kept.new.bytes (step_of kept.old.bytes event) result }
+        ensures { OfWhole self.old.book self.new.book (λ old new. StepsOwn old new kept.old.bytes kept.new.bytes
+            (step_of kept.old.bytes event) result) }
     {
         self.book.is_sound();
         match event {
@@ -97,9 +93,8 @@ impl<S: Store + Drop, L: Handed> Desk<S, L> {
         ino: Ino,
         frag: Frag,
     ) -> Result<bool, Refusal>
-        ensures { (opening : Opening) (past : List Applied) → StandsBehind opening past self.old.book
-            → StepsOwn (whole_of opening past self.old.book) (whole_of opening past self.new.book)
-            kept.old.bytes kept.new.bytes (Some (Send ino frag)) result }
+        ensures { OfWhole self.old.book self.new.book (λ old new. StepsOwn old new kept.old.bytes kept.new.bytes (Some
+            (Send ino frag)) result) }
     {
         self.book.is_sound();
         if kept.reserve().is_err() {
@@ -127,9 +122,8 @@ impl<S: Store + Drop, L: Handed> Desk<S, L> {
         ino: Ino,
         frag: Frag,
     ) -> Result<bool, Refusal>
-        ensures { (opening : Opening) (past : List Applied) → StandsBehind opening past self.old.book
-            → StepsOwn (whole_of opening past self.old.book) (whole_of opening past self.new.book)
-            kept.old.bytes kept.new.bytes (import_with ino frag (map.get kept.old.bytes (ino, frag))) result }
+        ensures { OfWhole self.old.book self.new.book (λ old new. StepsOwn old new kept.old.bytes kept.new.bytes
+            (import_with ino frag (map.get kept.old.bytes (ino, frag))) result) }
     {
         self.book.is_sound();
         if !kept.has(ino, frag) {
