@@ -5,7 +5,7 @@ ghost use Rattle.std.specs.Result.{result_err};
 ghost use Rattle.mds_types.specs.declared.entries.Entry.{Entry as Applied};
 ghost use Rattle.objstore.specs.Objects.{faults_told};
 ghost use Rattle.cluster_core.specs.OneThread.{InOrder, IsOneThread, StandsInHistory, waiting_in};
-ghost use Rattle.cluster_core.specs.Sound.{GoesOn, IsSoundKept, OfWhole};
+ghost use Rattle.cluster_core.specs.Sound.{Continues, IsSoundKept, OfWhole};
 ghost use Rattle.cluster_core.specs.State.{places_of, whole_of};
 ghost use Rattle.cluster_core.specs.declared.events.Answer.TheVariants.{Nothing};
 ghost use Rattle.asking.specs.Among.{AsksAmong};
@@ -48,7 +48,7 @@ pub fn ask<S: Store + Drop>(
     ensures reached { OfWhole book.old book.new (λ old new. IsBroughtBy request 20 result old new) }
     ensures limit { book.new.core.state.tree.limit ≡ book.old.core.state.tree.limit }
     ensures opening { book.new.opening ≡ book.old.opening }
-    ensures goes_on { GoesOn book.old book.new }
+    ensures goes_on { Continues book.old book.new }
     ensures sound { IsSoundKept book.new }
     ensures counted { book.new.core.faults ≡ book.old.core.faults + faults_told (result_err result) }
 {
@@ -96,7 +96,7 @@ fn serve_first<S: Store + Drop>(
     ensures reached { OfWhole book.old book.new (λ old new. LeadsTo client tid [] 19 (receipt_in result) (result_err
         result) old new) }
     ensures opening { book.new.opening ≡ book.old.opening }
-    ensures goes_on { GoesOn book.old book.new }
+    ensures goes_on { Continues book.old book.new }
     ensures sound { IsSoundKept book.new }
     ensures counted { book.new.core.faults ≡ book.old.core.faults + faults_told (result_err result) }
 {
@@ -143,7 +143,7 @@ fn serve_there<S: Store + Drop>(
     ensures reached { OfWhole book.old book.new (λ old new. LeadsTo client tid [] 18 (receipt_in result) (result_err
         result) old new) }
     ensures opening { book.new.opening ≡ book.old.opening }
-    ensures goes_on { GoesOn book.old book.new }
+    ensures goes_on { Continues book.old book.new }
     ensures sound { IsSoundKept book.new }
     ensures counted { book.new.core.faults ≡ book.old.core.faults + faults_told (result_err result) }
 {
@@ -173,7 +173,7 @@ fn serve_granted<S: Store + Drop>(
     ensures reached { OfWhole book.old book.new (λ old new. LeadsTo client tid [] 17 (receipt_in result) (result_err
         result) old new) }
     ensures opening { book.new.opening ≡ book.old.opening }
-    ensures goes_on { GoesOn book.old book.new }
+    ensures goes_on { Continues book.old book.new }
     ensures sound { IsSoundKept book.new }
     ensures counted { book.new.core.faults ≡ book.old.core.faults + faults_told (result_err result) }
 {
@@ -217,7 +217,7 @@ pub fn ask_among<S: Store + Drop>(
         receipt.client receipt.tid receipt.place receipt.reply)) }
     ensures few { waiting_in_all book.new.core.state.inboxes ≤ 1024 }
     ensures opening { book.new.opening ≡ book.old.opening }
-    ensures goes_on { GoesOn book.old book.new }
+    ensures goes_on { Continues book.old book.new }
     ensures sound { IsSoundKept book.new }
 {
     let Drained {

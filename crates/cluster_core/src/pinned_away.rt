@@ -5,7 +5,7 @@ ghost use Rattle.inboxes.specs.declared.pins.Pin.{Pin};
 ghost use Rattle.mds_types.specs.Leaf.{Leaf};
 ghost use Rattle.cluster_core.specs.Pins.{HasPin};
 ghost use Rattle.cluster_core.specs.Proposal.{IsAwayTo, IsFirstAway, IsFirstStep, IsOfPinned, IsProposable, IsRootAt, WouldStart, OfPin, Sight, lesser_away, lesser_candidate, sight_of};
-ghost use Rattle.subtree_map.specs.Authority.{Finds};
+ghost use Rattle.subtree_map.specs.Authority.{FindsAny};
 
 use crate::events::Event;
 use crate::going_on::is_mine;
@@ -101,7 +101,7 @@ fn away_to<S: Store + Drop>(
     ino: Ino,
     frag: Frag,
 ) -> Option<Rank>
-    ensures { (grants : List Pin) → Finds (IsAwayTo (sight_of tree.now grants ranks rank) (ino, frag)) result }
+    ensures { (grants : List Pin) → FindsAny (IsAwayTo (sight_of tree.now grants ranks rank) (ino, frag)) result }
 {
     let Some(to) = pin_of(tree.dirs(), ino) else {
         return None;
@@ -144,7 +144,7 @@ fn may_start<S: Store + Drop>(tree: &RankedTree<S>, rank: Rank, ino: Ino, frag: 
 
 // The effective pin of a directory.
 fn pin_of(dirs: &Dirs, dir: Ino) -> Option<Rank>
-    ensures { Finds (HasPin dirs.now.pins dirs.now.homes dir.0) result }
+    ensures { FindsAny (HasPin dirs.now.pins dirs.now.homes dir.0) result }
 {
     dirs.is_table();
     let mut at = dir;

@@ -2,7 +2,7 @@
 ghost use Rattle.std.specs.Prelude.{◌≡◌, ◌↔◌, IsTrue};
 ghost use Rattle.std.specs.FinMap as map;
 ghost use Rattle.inode_table.specs.Dirs.{IsLive};
-ghost use Rattle.subtree_map.specs.Authority.{Finds, IsSubtrees};
+ghost use Rattle.subtree_map.specs.Authority.{FindsAny, IsSubtrees};
 ghost use Rattle.export_steps.specs.Holder.{HasHolder, IsFrozen, region_holder};
 
 use crate::exports::{ExportState, Exports};
@@ -53,7 +53,7 @@ impl Exports {
         dir: Ino,
         frag: Frag,
     ) -> Option<Rank>
-        ensures { Finds (HasHolder self.now subtrees.now.roots dirs.now.homes dirs.now.trees (dir, frag)) result }
+        ensures { FindsAny (HasHolder self.now subtrees.now.roots dirs.now.homes dirs.now.trees (dir, frag)) result }
     {
         if self.rows.is_empty() {
             return subtrees.find_authority(dirs, dir, frag);

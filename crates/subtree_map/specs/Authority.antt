@@ -11,9 +11,9 @@ use Rattle.inode_table.specs.declared.dirs.Home.{Home}
 use Rattle.inode_table.specs.Dirs.{Homes, Covers, IsLive, is_known, leaves_of}
 
 -- a search finds a value of which P holds, and nothing exactly where P holds of none
-abbrev pub Finds : {X : Type 0} → (X → Type 0) → Option X → Type 0
-Finds {X} P None = (x : X) → P x → ⊥
-Finds {X} P (Some x) = P x
+abbrev pub FindsAny : {X : Type 0} → (X → Type 0) → Option X → Type 0
+FindsAny {X} P None = (x : X) → P x → ⊥
+FindsAny {X} P (Some x) = P x
 
 -- the subtree roots, each with its rank
 abbrev pub Roots : Type 0

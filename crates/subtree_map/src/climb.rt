@@ -3,7 +3,7 @@ ghost use Rattle.std.specs.Prelude.{◌≡◌, ◌↔◌, true, false, None, Som
 ghost use Rattle.std.specs.Option.{option_copied};
 ghost use Rattle.std.specs.FinMap as map;
 ghost use Rattle.inode_table.specs.Dirs.{IsLive, is_known};
-ghost use Rattle.subtree_map.specs.Authority.{Finds, HasAuthority, HoldsDentry, LocatesLeaf, IsSubtrees, NearestRoot};
+ghost use Rattle.subtree_map.specs.Authority.{FindsAny, HasAuthority, HoldsDentry, LocatesLeaf, IsSubtrees, NearestRoot};
 ghost use Rattle.mds_types.specs.declared.ids.Rank.{Rank as RankNumber};
 ghost use Rattle.subtree_map.specs.Climb.{FindsAbove, FindsRow, IsTop};
 
@@ -43,7 +43,7 @@ impl Subtrees {
 
     /// The authority of a leaf, of whatever map and fragment: none where no root is on the way up. Takes no memory.
     pub fn find_authority(&self, dirs: &Dirs, dir: Ino, frag: Frag) -> Option<Rank>
-        ensures { Finds (HasAuthority self.now.roots dirs.now.homes dirs.now.trees (dir, frag)) result }
+        ensures { FindsAny (HasAuthority self.now.roots dirs.now.homes dirs.now.trees (dir, frag)) result }
     {
         let (_, rank) = self.climb(dirs, (dir, frag), dirs.get(dir), &None)?;
         Some(rank)
@@ -51,7 +51,7 @@ impl Subtrees {
 
     /// The nearest root of a leaf, of whatever map and fragment: none where no root is on the way up. Takes no memory.
     pub fn find_root(&self, dirs: &Dirs, dir: Ino, frag: Frag) -> Option<(Ino, Frag)>
-        ensures { Finds (NearestRoot self.now.roots dirs.now.homes dirs.now.trees (dir, frag)) result }
+        ensures { FindsAny (NearestRoot self.now.roots dirs.now.homes dirs.now.trees (dir, frag)) result }
     {
         let (root, _) = self.climb(dirs, (dir, frag), dirs.get(dir), &None)?;
         Some(root)
@@ -60,7 +60,7 @@ impl Subtrees {
     /// The same as `find_root`, where a rank asks: it looks into its own list first, and takes a hint of it where the
     /// rank that the hint names has that root. Takes no memory.
     pub fn find_root_by(&self, rank: Rank, dirs: &Dirs, dir: Ino, frag: Frag) -> Option<(Ino, Frag)>
-        ensures { Finds (NearestRoot self.now.roots dirs.now.homes dirs.now.trees (dir, frag)) result }
+        ensures { FindsAny (NearestRoot self.now.roots dirs.now.homes dirs.now.trees (dir, frag)) result }
     {
         let (root, _) = self.climb(dirs, (dir, frag), dirs.get(dir), &Some(rank))?;
         Some(root)
