@@ -5,7 +5,7 @@ ghost use Rattle.std.specs.Result.{result_err};
 ghost use Rattle.mds_types.specs.declared.entries.Entry.{Entry as Applied};
 ghost use Rattle.objstore.specs.Objects.{faults_told};
 ghost use Rattle.cluster_core.specs.OneThread.{InOrder, IsOneThread, StandsInHistory, waiting_in};
-ghost use Rattle.cluster_core.specs.Sound.{Continues, IsSoundKept, OfWhole};
+ghost use Rattle.cluster_core.specs.Sound.{GoesOnBehind, IsSoundKept, OfWhole};
 ghost use Rattle.cluster_core.specs.State.{places_of, whole_of};
 ghost use Rattle.cluster_core.specs.declared.events.Answer.TheVariants.{Nothing};
 ghost use Rattle.asking.specs.Among.{AsksAmong};
@@ -48,7 +48,7 @@ pub fn ask<S: Store + Drop>(
     ensures reached { OfWhole book.old book.new (λ old new. IsBroughtBy request 20 result old new) }
     ensures limit { book.new.core.state.tree.limit ≡ book.old.core.state.tree.limit }
     ensures opening { book.new.opening ≡ book.old.opening }
-    ensures goes_on { Continues book.old book.new }
+    ensures goes_on { GoesOnBehind book.old book.new }
     ensures sound { IsSoundKept book.new }
     ensures counted { book.new.core.faults ≡ book.old.core.faults + faults_told (result_err result) }
 {
@@ -70,11 +70,11 @@ fn drop_nothing(answer: Answer)
 {
     match answer {
         Answer::Nothing => {}
-        Answer::Reply { .. } => unreachable!(),
-        Answer::Job(_) => unreachable!(),
-        Answer::Sent(_) => unreachable!(),
-        Answer::Forwarded(_) => unreachable!(),
-        Answer::Deferred => unreachable!(),
+        Answer::Reply { .. }
+        | Answer::Job(_)
+        | Answer::Sent(_)
+        | Answer::Forwarded(_)
+        | Answer::Deferred => unreachable!(),
     }
 }
 
@@ -96,7 +96,7 @@ fn serve_first<S: Store + Drop>(
     ensures reached { OfWhole book.old book.new (λ old new. LeadsTo client tid [] 19 (receipt_in result) (result_err
         result) old new) }
     ensures opening { book.new.opening ≡ book.old.opening }
-    ensures goes_on { Continues book.old book.new }
+    ensures goes_on { GoesOnBehind book.old book.new }
     ensures sound { IsSoundKept book.new }
     ensures counted { book.new.core.faults ≡ book.old.core.faults + faults_told (result_err result) }
 {
@@ -118,9 +118,7 @@ fn serve_first<S: Store + Drop>(
         }),
         Ok(Answer::Forwarded(master)) => serve_there(alloc, book, master, client, tid),
         Ok(Answer::Deferred) => serve_granted(alloc, book, rank, client, tid),
-        Ok(Answer::Nothing) => unreachable!(),
-        Ok(Answer::Job(_)) => unreachable!(),
-        Ok(Answer::Sent(_)) => unreachable!(),
+        Ok(Answer::Nothing | Answer::Job(_) | Answer::Sent(_)) => unreachable!(),
         Err(refusal) => Err(refusal),
     }
 }
@@ -143,7 +141,7 @@ fn serve_there<S: Store + Drop>(
     ensures reached { OfWhole book.old book.new (λ old new. LeadsTo client tid [] 18 (receipt_in result) (result_err
         result) old new) }
     ensures opening { book.new.opening ≡ book.old.opening }
-    ensures goes_on { Continues book.old book.new }
+    ensures goes_on { GoesOnBehind book.old book.new }
     ensures sound { IsSoundKept book.new }
     ensures counted { book.new.core.faults ≡ book.old.core.faults + faults_told (result_err result) }
 {
@@ -173,7 +171,7 @@ fn serve_granted<S: Store + Drop>(
     ensures reached { OfWhole book.old book.new (λ old new. LeadsTo client tid [] 17 (receipt_in result) (result_err
         result) old new) }
     ensures opening { book.new.opening ≡ book.old.opening }
-    ensures goes_on { Continues book.old book.new }
+    ensures goes_on { GoesOnBehind book.old book.new }
     ensures sound { IsSoundKept book.new }
     ensures counted { book.new.core.faults ≡ book.old.core.faults + faults_told (result_err result) }
 {
@@ -182,8 +180,7 @@ fn serve_granted<S: Store + Drop>(
     }
     match serve(alloc, book, rank) {
         Ok(Served::Replied(receipt)) => Ok(receipt),
-        Ok(Served::Goes(_)) => unreachable!(),
-        Ok(Served::Waits) => unreachable!(),
+        Ok(Served::Goes(_) | Served::Waits) => unreachable!(),
         Err(refusal) => Err(refusal),
     }
 }
@@ -217,7 +214,7 @@ pub fn ask_among<S: Store + Drop>(
         receipt.client receipt.tid receipt.place receipt.reply)) }
     ensures few { waiting_in_all book.new.core.state.inboxes ≤ 1024 }
     ensures opening { book.new.opening ≡ book.old.opening }
-    ensures goes_on { Continues book.old book.new }
+    ensures goes_on { GoesOnBehind book.old book.new }
     ensures sound { IsSoundKept book.new }
 {
     let Drained {

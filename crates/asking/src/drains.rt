@@ -3,7 +3,7 @@ ghost use Rattle.std.specs.Prelude.{◌≡◌, ◌≢◌, ◌⊎◌, ◌-◌, �
 ghost use Rattle.std.specs.FinMap as map;
 ghost use Rattle.cluster_core.specs.OneThread.{InOrder, IsOneThread, receipt_of, waiting_in};
 ghost use Rattle.cluster_core.specs.Runs.{GoesOnFrom};
-ghost use Rattle.cluster_core.specs.Sound.{Continues, IsSoundKept, OfWhole};
+ghost use Rattle.cluster_core.specs.Sound.{GoesOnBehind, IsSoundKept, OfWhole};
 ghost use Rattle.cluster_core.specs.State.{places_of};
 ghost use Rattle.asking.specs.Ask.{NoneWaits};
 ghost use Rattle.asking.specs.Drain.{IsLowest, IsStopped, RoundEnds, forwards, waiting_in_all};
@@ -54,7 +54,7 @@ pub fn drain<S: Store + Drop>(alloc: Global, book: &mut Book<S>) -> Drained
     ensures few { waiting_in_all book.new.core.state.inboxes ≤ 1024 }
     ensures grows { GoesOnFrom book.new.history book.old.history }
     ensures opening { book.new.opening ≡ book.old.opening }
-    ensures goes_on { Continues book.old book.new }
+    ensures goes_on { GoesOnBehind book.old book.new }
     ensures sound { IsSoundKept book.new }
 {
     book.is_sound();
@@ -79,7 +79,7 @@ fn answer_all<S: Store + Drop>(
     ensures few { waiting_in_all book.new.core.state.inboxes ≤ 1024 }
     ensures grows { GoesOnFrom book.new.history book.old.history }
     ensures opening { book.new.opening ≡ book.old.opening }
-    ensures goes_on { Continues book.old book.new }
+    ensures goes_on { GoesOnBehind book.old book.new }
     ensures sound { IsSoundKept book.new }
 {
     book.is_sound();
@@ -137,7 +137,7 @@ fn play_round<S: Store + Drop>(
     ensures exports { book.new.core.state.exports ≡ book.old.core.state.exports }
     ensures grows { GoesOnFrom book.new.history book.old.history }
     ensures opening { book.new.opening ≡ book.old.opening }
-    ensures goes_on { Continues book.old book.new }
+    ensures goes_on { GoesOnBehind book.old book.new }
     ensures sound { IsSoundKept book.new }
 {
     book.is_sound();

@@ -4,7 +4,7 @@ ghost use Rattle.std.specs.FinMap as map;
 ghost use Rattle.export_steps.specs.declared.exports.ExportState.TheVariants as at;
 ghost use Rattle.export_steps.specs.Standing.{state_at};
 ghost use Rattle.cluster_core.specs.Exporting.{IsUnsent};
-ghost use Rattle.cluster_core.specs.Sound.{Continues, IsSoundKept, OfWhole};
+ghost use Rattle.cluster_core.specs.Sound.{GoesOnBehind, IsSoundKept, OfWhole};
 ghost use Rattle.cluster_core.specs.declared.events.Answer.TheVariants.{Sent};
 ghost use Rattle.asking.specs.Ending.{CancelsOr, EndsExport, EndsFrozen, HasEnded, TriesToSend};
 
@@ -32,7 +32,7 @@ pub fn end_export<S: Store + Drop>(
     ensures ends { OfWhole book.old book.new (λ old new. EndsExport cancel (ino, frag) old new kept.old kept.new
         result) }
     ensures opening { book.new.opening ≡ book.old.opening }
-    ensures goes_on { Continues book.old book.new }
+    ensures goes_on { GoesOnBehind book.old book.new }
     ensures sound { IsSoundKept book.new }
 {
     book.is_sound();
@@ -72,7 +72,7 @@ fn end_frozen<S: Store + Drop>(
     ensures ends { OfWhole book.old book.new (λ old new. EndsFrozen cancel (ino, frag) 4 old new kept.old kept.new
         result) }
     ensures opening { book.new.opening ≡ book.old.opening }
-    ensures goes_on { Continues book.old book.new }
+    ensures goes_on { GoesOnBehind book.old book.new }
     ensures sound { IsSoundKept book.new }
 {
     book.is_sound();
@@ -98,7 +98,7 @@ fn end_prepared<S: Store + Drop>(
     ensures ends { OfWhole book.old book.new (λ old new. EndsFrozen cancel (ino, frag) 3 old new kept.old kept.new
         result) }
     ensures opening { book.new.opening ≡ book.old.opening }
-    ensures goes_on { Continues book.old book.new }
+    ensures goes_on { GoesOnBehind book.old book.new }
     ensures sound { IsSoundKept book.new }
 {
     book.is_sound();
@@ -123,7 +123,7 @@ fn send<S: Store + Drop>(
     ensures room { OnOk result (0 < kept.new.room) }
     ensures bytes { kept.new.bytes ≡ kept.old.bytes }
     ensures opening { book.new.opening ≡ book.old.opening }
-    ensures goes_on { Continues book.old book.new }
+    ensures goes_on { GoesOnBehind book.old book.new }
     ensures sound { IsSoundKept book.new }
 {
     book.is_sound();
@@ -141,11 +141,11 @@ fn keep_sent(kept: &mut KeptBytes, ino: Ino, frag: Frag, answer: Answer)
 {
     match answer {
         Answer::Sent(bytes) => kept.keep(ino, frag, bytes),
-        Answer::Nothing => unreachable!(),
-        Answer::Reply { .. } => unreachable!(),
-        Answer::Job(_) => unreachable!(),
-        Answer::Forwarded(_) => unreachable!(),
-        Answer::Deferred => unreachable!(),
+        Answer::Nothing
+        | Answer::Reply { .. }
+        | Answer::Job(_)
+        | Answer::Forwarded(_)
+        | Answer::Deferred => unreachable!(),
     }
 }
 
@@ -162,7 +162,7 @@ fn end_sent<S: Store + Drop>(
     ensures ends { OfWhole book.old book.new (λ old new. EndsFrozen cancel (ino, frag) 2 old new kept.old kept.new
         result) }
     ensures opening { book.new.opening ≡ book.old.opening }
-    ensures goes_on { Continues book.old book.new }
+    ensures goes_on { GoesOnBehind book.old book.new }
     ensures sound { IsSoundKept book.new }
 {
     book.is_sound();
@@ -191,7 +191,7 @@ fn finish<S: Store + Drop>(
     requires { state_at book.old.core.state.exports (ino, frag) ≡ Some at.Imported }
     ensures ends { OfWhole book.old book.new (λ old new. HasEnded cancel (ino, frag) 1 old new kept.old kept.new) }
     ensures opening { book.new.opening ≡ book.old.opening }
-    ensures goes_on { Continues book.old book.new }
+    ensures goes_on { GoesOnBehind book.old book.new }
     ensures sound { IsSoundKept book.new }
 {
     book.is_sound();
@@ -214,7 +214,7 @@ fn unless_cancelled<S: Store + Drop>(
     requires { IsUnsent book.old.core.state (ino, frag) }
     ensures cancels { OfWhole book.old book.new (λ old new. CancelsOr cancel (ino, frag) old new refusal result) }
     ensures opening { book.new.opening ≡ book.old.opening }
-    ensures goes_on { Continues book.old book.new }
+    ensures goes_on { GoesOnBehind book.old book.new }
     ensures sound { IsSoundKept book.new }
 {
     book.is_sound();

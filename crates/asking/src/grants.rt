@@ -4,7 +4,7 @@ ghost use Rattle.std.specs.Result.{result_err};
 ghost use Rattle.objstore.specs.Objects.{faults_told};
 ghost use Rattle.mds_types.specs.declared.requests.Request.{Request as Asked};
 ghost use Rattle.inboxes.specs.Inboxes.{first_waiting};
-ghost use Rattle.cluster_core.specs.Sound.{Continues, IsSoundKept, OfWhole};
+ghost use Rattle.cluster_core.specs.Sound.{GoesOnBehind, IsSoundKept, OfWhole};
 ghost use Rattle.asking.specs.GrantsAll.{GrantsEach, GrantsOf};
 ghost use Rattle.asking.specs.Reached.{LeadsTo};
 
@@ -28,7 +28,7 @@ pub fn grant_all<S: Store + Drop>(
     ensures reached { OfWhole book.old book.new (λ old new. LeadsTo client tid [] 16 [] (result_err result) old new) }
     ensures history { book.new.history ≡ book.old.history }
     ensures opening { book.new.opening ≡ book.old.opening }
-    ensures goes_on { Continues book.old book.new }
+    ensures goes_on { GoesOnBehind book.old book.new }
     ensures sound { IsSoundKept book.new }
     ensures counted { book.new.core.faults ≡ book.old.core.faults + faults_told (result_err result) }
 {
@@ -54,7 +54,7 @@ fn grant_own<S: Store + Drop>(
     ensures reached { OfWhole book.old book.new (λ old new. LeadsTo client tid [] 1 [] (result_err result) old new) }
     ensures history { book.new.history ≡ book.old.history }
     ensures opening { book.new.opening ≡ book.old.opening }
-    ensures goes_on { Continues book.old book.new }
+    ensures goes_on { GoesOnBehind book.old book.new }
     ensures sound { IsSoundKept book.new }
     ensures counted { book.new.core.faults ≡ book.old.core.faults + faults_told (result_err result) }
 {

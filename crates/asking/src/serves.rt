@@ -4,7 +4,7 @@ ghost use Rattle.std.specs.Result.{result_err};
 ghost use Rattle.objstore.specs.Objects.{faults_told};
 ghost use Rattle.mds_types.specs.declared.requests.Request.{Request as Asked};
 ghost use Rattle.inboxes.specs.Inboxes.{waiting_at};
-ghost use Rattle.cluster_core.specs.Sound.{Continues, IsSoundKept, OfWhole};
+ghost use Rattle.cluster_core.specs.Sound.{GoesOnBehind, IsSoundKept, OfWhole};
 ghost use Rattle.asking.specs.Reached.{LeadsTo};
 ghost use Rattle.asking.specs.Serves.{StandsFor, IsOfServe, ServesTo, SomeWaits, receipts_in, told_of};
 
@@ -39,7 +39,7 @@ pub(crate) fn serve<S: Store + Drop>(
     ensures reached { OfWhole book.old book.new (λ old new. (client tid : ℕ) → LeadsTo client tid [] 1 (receipts_in
         result) (result_err result) old new) }
     ensures opening { book.new.opening ≡ book.old.opening }
-    ensures goes_on { Continues book.old book.new }
+    ensures goes_on { GoesOnBehind book.old book.new }
     ensures sound { IsSoundKept book.new }
     ensures counted { book.new.core.faults ≡ book.old.core.faults + faults_told (result_err result) }
 {
@@ -72,8 +72,6 @@ fn served_by(answer: Answer) -> Served
         }),
         Answer::Forwarded(master) => Served::Goes(master),
         Answer::Deferred => Served::Waits,
-        Answer::Nothing => unreachable!(),
-        Answer::Job(_) => unreachable!(),
-        Answer::Sent(_) => unreachable!(),
+        Answer::Nothing | Answer::Job(_) | Answer::Sent(_) => unreachable!(),
     }
 }

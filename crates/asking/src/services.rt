@@ -6,7 +6,7 @@ ghost use Rattle.mds_types.specs.declared.entries.Entry.{Entry as Applied};
 ghost use Rattle.cluster_core.specs.Flush.{Flushes, IsColdTree};
 ghost use Rattle.cluster_core.specs.KeptSessions.{KeepsSessions, with_stored};
 ghost use Rattle.cluster_core.specs.OneThread.{InOrder, IsOneThread, StandsInHistory, arrival};
-ghost use Rattle.cluster_core.specs.Sound.{Continues, IsSoundKept, OfWhole, StandsBehind};
+ghost use Rattle.cluster_core.specs.Sound.{GoesOnBehind, IsSoundKept, OfWhole, StandsBehind};
 ghost use Rattle.cluster_core.specs.State.{places_of, shown};
 ghost use Rattle.cluster_core.specs.Steps.{Steps};
 ghost use Rattle.cluster_core.specs.Uses.{UsesStep};
@@ -54,7 +54,7 @@ pub fn ask_once<S: Store + Drop>(
         receipt.client receipt.tid receipt.place receipt.reply)) }
     ensures limit { book.new.core.state.tree.limit ≡ book.old.core.state.tree.limit }
     ensures opening { book.new.opening ≡ book.old.opening }
-    ensures goes_on { Continues book.old book.new }
+    ensures goes_on { GoesOnBehind book.old book.new }
     ensures sound { IsSoundKept book.new }
 {
     book.is_sound();
@@ -72,7 +72,7 @@ pub fn ask_once<S: Store + Drop>(
 fn leave<S: Store + Drop>(book: &mut Book<S>)
     ensures left { Leaves book.old book.new }
     ensures opening { book.new.opening ≡ book.old.opening }
-    ensures goes_on { Continues book.old book.new }
+    ensures goes_on { GoesOnBehind book.old book.new }
     ensures sound { IsSoundKept book.new }
 {
     book.is_sound();
@@ -145,7 +145,7 @@ impl<S: Store + Drop> Service<S> {
         ensures gone { self.new.book.opening ≡ None }
         ensures history { self.new.book.history ≡ self.old.book.history }
         ensures core { self.new.book.core ≡ self.old.book.core }
-        ensures goes_on { Continues self.old.book self.new.book }
+        ensures goes_on { GoesOnBehind self.old.book self.new.book }
     {
         self.book.drop_opening();
     }
@@ -158,7 +158,7 @@ impl<S: Store + Drop> Service<S> {
         ensures uses { UsesStep self.old.book.core self.new.book.core result event }
         ensures silent { self.new.book.history ≡ self.old.book.history }
         ensures limit { self.new.book.core.state.tree.limit ≡ self.old.book.core.state.tree.limit }
-        ensures goes_on { Continues self.old.book self.new.book }
+        ensures goes_on { GoesOnBehind self.old.book self.new.book }
         ensures opening { self.new.book.opening ≡ self.old.book.opening }
     {
         self.book.is_sound();
@@ -170,7 +170,7 @@ impl<S: Store + Drop> Service<S> {
         ensures cold { OnOk result
             (IsColdTree self.new.book.core.state.tree.objects (shown self.old.book.core.state)) }
         ensures outcome { Flushes self.old.book self.new.book result }
-        ensures goes_on { Continues self.old.book self.new.book }
+        ensures goes_on { GoesOnBehind self.old.book self.new.book }
     {
         flush(rt, alloc, &mut self.book)
     }
@@ -225,7 +225,7 @@ impl<S: Keep + Drop> Service<S> {
         ensures same { OnErr result (self.new.book ≡ self.old.book) }
         ensures sessions { S.has_rows ≡ true
             → IfOk result (λ s. KeepsSessions self.old.book (λ edits. S.Takes s.0.value edits s.1.value)) }
-        ensures goes_on { Continues self.old.book self.new.book }
+        ensures goes_on { GoesOnBehind self.old.book self.new.book }
         ensures failed { IfErr result (λ _. S.may_fail) }
     {
         match self.book.keep() {

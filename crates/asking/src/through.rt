@@ -1,7 +1,7 @@
 //! Asking through exports: an export whose frozen region a request would change is ended first.
 ghost use Rattle.std.specs.Prelude.{◌≡◌, ◌≢◌, ◌∷◌, [], Err, IfOk, MatchOption, MatchResult};
 ghost use Rattle.cluster_core.specs.OneThread.{InOrder, IsOneThread, StandsInHistory};
-ghost use Rattle.cluster_core.specs.Sound.{Continues, IsSoundKept, OfWhole};
+ghost use Rattle.cluster_core.specs.Sound.{GoesOnBehind, IsSoundKept, OfWhole};
 ghost use Rattle.cluster_core.specs.State.{places_of};
 ghost use Rattle.asking.specs.Ask.{NoneWaits};
 ghost use Rattle.asking.specs.Ending.{HasAllBytes, IsFreezing, NoneFreezing, NoneFreezingOf};
@@ -44,7 +44,7 @@ pub fn ask_through<S: Store + Drop>(
         receipt.client receipt.tid receipt.place receipt.reply)) }
     ensures limit { book.new.core.state.tree.limit ≡ book.old.core.state.tree.limit }
     ensures opening { book.new.opening ≡ book.old.opening }
-    ensures goes_on { Continues book.old book.new }
+    ensures goes_on { GoesOnBehind book.old book.new }
     ensures sound { IsSoundKept book.new }
 {
     book.is_sound();
@@ -86,7 +86,7 @@ fn ask_copy<S: Store + Drop>(
         receipt.client receipt.tid receipt.place receipt.reply)) }
     ensures limit { book.new.core.state.tree.limit ≡ book.old.core.state.tree.limit }
     ensures opening { book.new.opening ≡ book.old.opening }
-    ensures goes_on { Continues book.old book.new }
+    ensures goes_on { GoesOnBehind book.old book.new }
     ensures sound { IsSoundKept book.new }
 {
     book.is_sound();

@@ -103,8 +103,8 @@ pub record StandsBehind (opening : Opening) (past : List Entry) (book : KeptStat
   pub behind : IsSoundBehind opening past book.history book.core
 
 -- whatever opening and forgotten past a book went on from, it goes on from them
-abbrev pub Continues : (old new : KeptState) → Type 0
-Continues old new = (opening : Opening) (past : List Entry) → StandsBehind opening past old → StandsBehind opening past new
+abbrev pub GoesOnBehind : (old new : KeptState) → Type 0
+GoesOnBehind old new = (opening : Opening) (past : List Entry) → StandsBehind opening past old → StandsBehind opening past new
 
 -- whatever opening and forgotten past a book went on from, this holds of the whole book, before and after
 abbrev pub OfWhole : (old new : KeptState) → (Holds : (old new : BookState) → Type 0) → Type 0

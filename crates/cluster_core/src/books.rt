@@ -9,7 +9,7 @@ ghost use Rattle.cluster_core.specs.Fragments.{LieAtHolder};
 ghost use Rattle.cluster_core.specs.OneThread.{InOrder, IsOneThread, arrival, receipt_of, waiting_in};
 ghost use Rattle.cluster_core.specs.State.{new_state, places_of, shown};
 ghost use Rattle.cluster_core.specs.Steps.{Steps};
-ghost use Rattle.cluster_core.specs.Sound.{Continues, IsSoundKept, OfWhole, StandsBehind};
+ghost use Rattle.cluster_core.specs.Sound.{GoesOnBehind, IsSoundKept, OfWhole, StandsBehind};
 ghost use Rattle.cluster_core.specs.Uses.{UsesStep};
 
 use crate::clusters::Cluster;
@@ -104,7 +104,7 @@ impl<S: Store + Drop> Book<S> {
         ensures stepped { OfWhole self.old self.new (λ old new. Steps old.core new.core old.history new.history result
             event) }
         ensures uses { UsesStep self.old.core self.new.core result event }
-        ensures goes_on { Continues self.old self.new }
+        ensures goes_on { GoesOnBehind self.old self.new }
         ensures opening { self.new.opening ≡ self.old.opening }
         ensures limit { self.new.core.state.tree.limit ≡ self.old.core.state.tree.limit }
         ensures sound { IsSoundKept self.new }

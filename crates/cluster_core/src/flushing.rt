@@ -4,7 +4,7 @@ ghost use Rattle.std.specs.FinMap as map;
 ghost use Rattle.std.specs.Result.{result_err};
 ghost use Rattle.objstore.specs.Objects.{faults_told};
 ghost use Rattle.cluster_core.specs.Flush.{AreExact, Flushes, IsColdTree, KeepsCore, MayNotFlush};
-ghost use Rattle.cluster_core.specs.Sound.{AreCached, AreExported, Continues, IsSoundKept, IsSoundWith};
+ghost use Rattle.cluster_core.specs.Sound.{AreCached, AreExported, GoesOnBehind, IsSoundKept, IsSoundWith};
 ghost use Rattle.cluster_core.specs.State.{shown};
 
 use crate::books::Book;
@@ -63,7 +63,7 @@ pub fn flush<S: Store + Drop>(
     ensures purged { OnOk result (book.new.core.state.tree.purge ≡ map.empty) }
     ensures outcome { Flushes book.old book.new result }
     ensures counted { book.new.core.faults ≡ book.old.core.faults + faults_told (result_err result) }
-    ensures goes_on { Continues book.old book.new }
+    ensures goes_on { GoesOnBehind book.old book.new }
     ensures sound { IsSoundKept book.new }
 {
     if !book.cluster.has_no_export() {

@@ -4,7 +4,7 @@ ghost use Rattle.std.specs.List.{slice_index_or};
 ghost use Rattle.cluster_core.specs.Opening.{Opening};
 ghost use Rattle.mds_types.specs.declared.entries.Entry.{Entry as Applied};
 ghost use Rattle.sessions.specs.Aside.{StopsForgetting, forget_all};
-ghost use Rattle.cluster_core.specs.Sound.{Continues, StandsBehind};
+ghost use Rattle.cluster_core.specs.Sound.{GoesOnBehind, StandsBehind};
 ghost use Rattle.cluster_core.specs.State.{places_of, with_sessions};
 
 use crate::books::Book;
@@ -117,7 +117,7 @@ impl<S: Store + Drop> Book<S> {
         ensures gone { self.new.opening ≡ None }
         ensures history { self.new.history ≡ self.old.history }
         ensures core { self.new.core ≡ self.old.core }
-        ensures goes_on { Continues self.old self.new }
+        ensures goes_on { GoesOnBehind self.old self.new }
     {
         drop(self.opening.take());
     }

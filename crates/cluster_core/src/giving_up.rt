@@ -1,7 +1,7 @@
 //! Giving up a request that waits.
 ghost use Rattle.inboxes.specs.Inboxes.{waiting_at};
 ghost use Rattle.cluster_core.specs.GivenUp.{GivesUp, GivesUpIn};
-ghost use Rattle.cluster_core.specs.Sound.{Continues, IsSoundKept};
+ghost use Rattle.cluster_core.specs.Sound.{GoesOnBehind, IsSoundKept};
 
 use crate::books::Book;
 use crate::clusters::Cluster;
@@ -23,7 +23,7 @@ impl<S: Store + Drop> Cluster<S> {
 /// never arrived. Nothing else changes, and no reply is given.
 pub fn give_up<S: Store + Drop>(book: &mut Book<S>, rank: Rank)
     ensures given { GivesUp book.old book.new rank }
-    ensures goes_on { Continues book.old book.new }
+    ensures goes_on { GoesOnBehind book.old book.new }
     ensures sound { IsSoundKept book.new }
 {
     book.cluster.give_up(rank);

@@ -1,7 +1,7 @@
 //! Whole runs of a book.
 ghost use Rattle.std.specs.Prelude.{◌≡◌, ◌+◌, ◌<◌, ◌≤◌, ◌++◌, ◌∷◌, [], vec_len, vec_capacity, Contains, IfErr, IfOk, OnOk};
 ghost use Rattle.std.specs.List.{AllByRecursion};
-ghost use Rattle.cluster_core.specs.Sound.{Continues, IsSoundKept, OfWhole};
+ghost use Rattle.cluster_core.specs.Sound.{GoesOnBehind, IsSoundKept, OfWhole};
 ghost use Rattle.cluster_core.specs.State.{places_of};
 ghost use Rattle.cluster_core.specs.OneThread.{InOrder, IsOneThread, IsOneThreadThroughout, arrivals, receipts_of, waiting_in};
 ghost use Rattle.cluster_core.specs.Runs.{IsRun};
@@ -34,7 +34,7 @@ pub fn run<S: Store + Drop>(
     ensures ran { OfWhole book.old book.new (λ old new. IfOk result (λ results. IsRun old events.items results.items
         new)) }
     ensures refused { IfErr result (λ reason. (reason ≡ Refusal.NoMemory) × (book.new ≡ book.old)) }
-    ensures goes_on { Continues book.old book.new }
+    ensures goes_on { GoesOnBehind book.old book.new }
     ensures opening { book.new.opening ≡ book.old.opening }
     ensures sound { IsSoundKept book.new }
 {

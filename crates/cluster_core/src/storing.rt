@@ -5,7 +5,7 @@ ghost use Rattle.mds_types.specs.declared.entries.Entry.{Entry as Applied};
 ghost use Rattle.sessions.specs.Table.{all_stored};
 ghost use Rattle.cluster_core.specs.KeptSessions.{AreNextOf, KeepsSessions, WritesAll, with_stored};
 ghost use Rattle.cluster_core.specs.Opening.{Opening};
-ghost use Rattle.cluster_core.specs.Sound.{Continues, IsSoundBehind};
+ghost use Rattle.cluster_core.specs.Sound.{GoesOnBehind, IsSoundBehind};
 ghost use Rattle.cluster_core.specs.State.{no_supply, with_sessions};
 
 use crate::books::Book;
@@ -27,7 +27,7 @@ impl<S: Keep + Drop> Book<S> {
     pub fn keep(&mut self) -> Result<(Snapshot<S>, Snapshot<S>), Unkept>
         ensures stored { OnOk result (self.new ≡ with_stored self.old) }
         ensures same { OnErr result (self.new ≡ self.old) }
-        ensures goes_on { Continues self.old self.new }
+        ensures goes_on { GoesOnBehind self.old self.new }
         ensures objects { IfOk result (λ s. S.objects s.1.value ≡ self.old.core.state.tree.objects) }
         ensures sessions { S.has_rows ≡ true
             → IfOk result (λ s. KeepsSessions self.old (λ edits. S.Takes s.0.value edits s.1.value)) }

@@ -3,7 +3,7 @@ ghost use Rattle.std.specs.Prelude.{IfOk, IfSome};
 ghost use Rattle.mds_types.specs.Tree.{Tree};
 ghost use Rattle.cold_store.specs.ColdTree.{IsColdTree};
 ghost use Rattle.cluster_core.specs.Opening.{after_from};
-ghost use Rattle.cluster_core.specs.Sound.{Continues, IsSoundKept, OfWhole};
+ghost use Rattle.cluster_core.specs.Sound.{GoesOnBehind, IsSoundKept, OfWhole};
 ghost use Rattle.kept_store.specs.Kept.{TakesEdits};
 ghost use Rattle.sqlite_trees.specs.View.{IsClean};
 ghost use Rattle.kept_book.specs.Saves.{Saves};
@@ -44,7 +44,7 @@ pub fn save<T: Settle + Drop>(
         IsOnDisk (T.Store.recovers s.1.value.tables) (after_from old.core.state.tree.limit old.opening old.history))) }
     ensures saves { Saves (λ s edits. TakesEdits T.Store.view T.Store.recovers s.0.value edits s.1.value)
         book.old book.new result }
-    ensures goes_on { Continues book.old book.new }
+    ensures goes_on { GoesOnBehind book.old book.new }
     ensures sound { IsSoundKept book.new }
 {
     if let Err(refusal) = flush(rt, alloc, book) {
