@@ -118,7 +118,9 @@ fn serve_first<S: Store + Drop>(
         }),
         Ok(Answer::Forwarded(master)) => serve_there(alloc, book, master, client, tid),
         Ok(Answer::Deferred) => serve_granted(alloc, book, rank, client, tid),
-        Ok(Answer::Nothing | Answer::Job(_) | Answer::Sent(_)) => unreachable!(),
+        Ok(Answer::Nothing) => unreachable!(),
+        Ok(Answer::Job(_)) => unreachable!(),
+        Ok(Answer::Sent(_)) => unreachable!(),
         Err(refusal) => Err(refusal),
     }
 }
@@ -180,7 +182,8 @@ fn serve_granted<S: Store + Drop>(
     }
     match serve(alloc, book, rank) {
         Ok(Served::Replied(receipt)) => Ok(receipt),
-        Ok(Served::Goes(_) | Served::Waits) => unreachable!(),
+        Ok(Served::Goes(_)) => unreachable!(),
+        Ok(Served::Waits) => unreachable!(),
         Err(refusal) => Err(refusal),
     }
 }
