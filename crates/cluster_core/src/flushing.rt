@@ -43,8 +43,8 @@ impl<S: Store + Drop> Cluster<S> {
 /// Writes all that the store doesn't have yet, so that the store alone holds the tree after the history. Commits that
 /// were begun are given up, each fragment that isn't clean is committed, the objects of fragment trees are updated, and
 /// the objects on the purge list are removed. Afterwards the store has exactly the objects of the leaves, and those of
-/// the fragment trees with several leaves. Fragments are encoded on several threads, at most 256 at once, and memory is
-/// taken for so many.
+/// the fragment trees with several leaves. Fragments are encoded on several threads, at most 256 at once. Takes memory
+/// for so many, and for a list of all leaves that it commits, 24 bytes for each.
 ///
 /// Whatever it returns, the opening tree, the history and the shown tree are unchanged, and so are directories and
 /// their leaves, next numbers, authorities, inboxes, grants and sessions. No commit is under way any more.

@@ -17,7 +17,7 @@ pub use Rattle.dentry_cache.specs.CacheSplits.{AreAbsent, AreFillable, HaveKeptP
 pub use Rattle.dentry_cache.specs.Came.{Came, NoneEnds}
 pub use Rattle.dentry_cache.specs.CandidateSets.{AreCandidates, AreSets, AreTold, HasRoomFor, IsBelow, IsLeafGap, IsPlaceBehind, IsResized, IsLeafSpot, MayResize, Rise, StandsAt, are_few, both, is_few, is_leaf_in, is_large, sizes_of, together}
 pub use Rattle.dentry_cache.specs.Candidates.{IsBehind, IsLargeIn, IsNextLeaf, IsSmallIn, Sizes, child, entries_of_children, size_in}
-pub use Rattle.dentry_cache.specs.Commits.{IsCommitted, IsCleanedOf, MayNotBegin, TakesSnap}
+pub use Rattle.dentry_cache.specs.Commits.{IsCommitted, IsCleanedOf}
 pub use Rattle.dentry_cache.specs.Divided.{AreChildren, AreNumbered, AreReady, IsCachedChild, IsReadyPart, bare, names_in}
 pub use Rattle.dentry_cache.specs.Fetches.{IsRefusedIn}
 pub use Rattle.dentry_cache.specs.Handing.{HandsFragmentsOver, HaveNoPlace, and_kept, kept_all, moved, moved_all, moved_as, without_all}

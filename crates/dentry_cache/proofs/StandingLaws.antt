@@ -41,9 +41,9 @@ pub taken_can_end : TakenCanEnd
 taken_can_end snapshot f object valid takes tie =
     record {
       valid = valid;
-      based = ap (λ (s : Snap). s.base) takes.1;
-      keeps = λ name. subst (λ (m : Marks). IsStillDirty (map.get f.dirty name) (map.get m name)) (sym (ap (λ (s : Snap). s.names) takes.1)) (kept_itself (map.get f.dirty name));
-      counted = ap (λ (s : Snap). s.counts) takes.1 ∙ ap counts_of (tied_show f object tie) ∙ sym (ap (λ (s : Snap). counts_of (shown_over s.base (names_at object) s.names)) takes.1);
+      based = ap (λ (s : Snap). s.base) takes;
+      keeps = λ name. subst (λ (m : Marks). IsStillDirty (map.get f.dirty name) (map.get m name)) (sym (ap (λ (s : Snap). s.names) takes)) (kept_itself (map.get f.dirty name));
+      counted = ap (λ (s : Snap). s.counts) takes ∙ ap counts_of (tied_show f object tie) ∙ sym (ap (λ (s : Snap). counts_of (shown_over s.base (names_at object) s.names)) takes);
     }
 
 module _ (f : Cached) (name : List ℕ) (mark : Mark) (names : Marks) (below : AreBelow mark.version names) (keeps : Keeps f.dirty names) where

@@ -1,5 +1,5 @@
 -- The fragments that aren't clean, of one cache and of all.
-use Rattle.std.proofs.Common.{◌≡◌, ℕ, zero, suc, ◌+◌, ◌<◌, ◌≤◌, arith, append_assoc, length, Bool, true, false, cond, not, ◌&&◌, List, [], ◌∷◌, ◌++◌, take, drop, Option, Some, None, refl, sym, ap, ◌∙◌}
+use Rattle.std.proofs.Common.{◌≡◌, ℕ, ◌+◌, ◌<◌, append_assoc, length, Bool, true, false, cond, not, ◌&&◌, List, [], ◌∷◌, ◌++◌, drop, Option, Some, None, refl, sym, ap, ◌∙◌}
 use Rattle.std.specs.Prelude.{is_some}
 use Rattle.std.specs.List.{AllByRecursion, IsDistinct}
 use Rattle.std.specs.Map.{keys_of, lookup}
@@ -44,27 +44,15 @@ module _ (c : CacheMap) (r : ℕ) (all : Places) (seen : (q : Leaf) → cached a
   pub among_is : IsDistinct leaf_is (keys_of all) → unclean_leaves_in (record { 0 = r }) all ≡ unclean_among c r (keys_of all)
   among_is distinct = among_so all (each_found all distinct)
 
--- the first so many, once more taken with others behind
-pub taken_twice : {A : Type 0} (n : ℕ) (xs ys : List A) → take n (take n xs ++ ys) ≡ take n (xs ++ ys)
-taken_twice zero xs ys = refl
-taken_twice (suc n) [] ys = refl
-taken_twice (suc n) (x ∷ xs) ys = ap (λ l. x ∷ l) (taken_twice n xs ys)
-
-pub few_taken : {A : Type 0} (n : ℕ) (xs : List A) → length (take n xs) ≤ n
-few_taken zero xs = omega arith
-few_taken (suc n) [] = omega arith
-few_taken (suc n) (x ∷ xs) = let less = few_taken n xs in omega (arith, less)
-
 -- a rank more
-module _ (c : CacheMap) (i most : ℕ) (leaves new all : List Dirfrag) (es : Places) where
-  pub rank_more : (rank : Rank) → rank.0 ≡ i → i < length c.used → ((q : Leaf) → cached es q ≡ here c i q) → IsDistinct leaf_is (keys_of es) → order c i ≡ keys_of es → new ≡ take most (leaves ++ unclean_leaves_in rank es)
-      → take most (leaves ++ unclean_from c i (drop i c.used)) ≡ all → take most (new ++ unclean_from c (i + 1) (drop (i + 1) c.used)) ≡ all
+module _ (c : CacheMap) (i : ℕ) (leaves new all : List Dirfrag) (es : Places) where
+  pub rank_more : (rank : Rank) → rank.0 ≡ i → i < length c.used → ((q : Leaf) → cached es q ≡ here c i q) → IsDistinct leaf_is (keys_of es) → order c i ≡ keys_of es → new ≡ leaves ++ unclean_leaves_in rank es
+      → leaves ++ unclean_from c i (drop i c.used) ≡ all → new ++ unclean_from c (i + 1) (drop (i + 1) c.used) ≡ all
   rank_more rank at within seen distinct keys is so_far =
-      ap (λ l. take most (l ++ rest)) is
-      ∙ taken_twice most (leaves ++ unclean_leaves_in rank es) rest
-      ∙ ap (take most) (append_assoc leaves (unclean_leaves_in rank es) rest)
-      ∙ ap (λ l. take most (leaves ++ (l ++ rest))) (ap (λ n. unclean_leaves_in (record { 0 = n }) es) at ∙ among_is c i es seen distinct ∙ ap (unclean_among c i) (sym keys))
-      ∙ ap (λ us. take most (leaves ++ unclean_from c i us)) (sym (drop_more c.used i [] within))
+      ap (λ l. l ++ rest) is
+      ∙ append_assoc leaves (unclean_leaves_in rank es) rest
+      ∙ ap (λ l. leaves ++ (l ++ rest)) (ap (λ n. unclean_leaves_in (record { 0 = n }) es) at ∙ among_is c i es seen distinct ∙ ap (unclean_among c i) (sym keys))
+      ∙ ap (λ us. leaves ++ unclean_from c i us) (sym (drop_more c.used i [] within))
       ∙ so_far
     where
       rest : List Dirfrag

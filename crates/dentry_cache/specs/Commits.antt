@@ -1,5 +1,5 @@
 -- What a commit takes of a cached fragment, and what it leaves.
-use Rattle.std.specs.Prelude.{◌≡◌, ◌⊎◌, ℕ, true, false, List, Option, Some, None}
+use Rattle.std.specs.Prelude.{◌≡◌, ℕ, List}
 use Rattle.mds_types.specs.Frag.{Fragment}
 use Rattle.mds_types.specs.ObjectText.{object_text}
 use Rattle.mds_types.specs.declared.ids.Ino.{Ino}
@@ -8,10 +8,8 @@ use Rattle.cached_frag.specs.declared.bases.Base.TheVariants.{Stored}
 use Rattle.cached_frag.specs.Commit.{Carried}
 use Rattle.cached_frag.specs.Marks.{Marks}
 use Rattle.mds_types.specs.Leaf.{Leaf}
-use Rattle.cached_frag.specs.Snap.{IsBelowEnd, Snap, next_version}
-use Rattle.mds_types.specs.declared.refusals.Refusal.{Refusal}
-use Rattle.mds_types.specs.declared.refusals.Refusal.TheVariants.{NoInodes, NoMemory}
-use Rattle.cached_frag.specs.Cached.{Cached, is_clean, shown_names, snapshot_of, unsettled}
+use Rattle.cached_frag.specs.Snap.{Snap, next_version}
+use Rattle.cached_frag.specs.Cached.{Cached, shown_names, unsettled}
 
 -- the text that names a leaf's object
 abbrev pub leaf_text : Ino → Fragment → List ℕ
@@ -20,16 +18,6 @@ leaf_text dir frag = object_text (FragOf dir frag)
 -- the leaf of an encoded job
 abbrev pub job_leaf : Carried → Leaf
 job_leaf encoded = (encoded.job.ino, encoded.job.frag)
-
--- nothing is taken of a clean fragment; of any other its base, its dirty names and its entry counts
-abbrev pub TakesSnap : Option Snap → Cached → Type 0
-TakesSnap None f = is_clean f ≡ true
-TakesSnap (Some snapshot) f = (is_clean f ≡ false) × (snapshot ≡ snapshot_of f)
-
--- why nothing is taken of a fragment that isn't clean: no version is left, or else want of memory
-abbrev pub MayNotBegin : Refusal → Cached → Type 0
-MayNotBegin refusal f = (is_clean f ≡ false) × (((refusal ≡ NoInodes) × (IsBelowEnd f.base → ⊥))
-    ⊎ ((refusal ≡ NoMemory) × IsBelowEnd f.base))
 
 -- a fragment whose object has these names at their versions, and is at this commit version: exactly those names became
 -- clean whose last change the object has, and it shows what it showed

@@ -6,8 +6,7 @@ use Rattle.objstore.specs.Omap.{Omap}
 use Rattle.cached_frag.specs.declared.marks.Mark.{Mark}
 use Rattle.cached_frag.specs.Marks.{Marks}
 use Rattle.cached_frag.specs.Snap.{IsSnap, Snap}
-use Rattle.cached_frag.specs.Cached.{Cached, is_clean, is_clean_over, marked}
-use Rattle.dentry_cache.specs.Commits.{TakesSnap}
+use Rattle.cached_frag.specs.Cached.{Cached, is_clean, is_clean_over, marked, snapshot_of}
 use Rattle.dentry_cache.specs.Ties.{Commits, IsTied}
 
 -- these names all have versions below this
@@ -23,7 +22,7 @@ StandingIsUnclean =
 -- the commit of a snapshot that was just taken can end
 abbrev pub TakenCanEnd : Type 0
 TakenCanEnd =
-    (snapshot : Snap) (f : Cached) (object : Option Omap) → IsSnap snapshot → TakesSnap (Some snapshot) f → IsTied f object
+    (snapshot : Snap) (f : Cached) (object : Option Omap) → IsSnap snapshot → snapshot ≡ snapshot_of f → IsTied f object
     → Commits snapshot f object
 
 -- it can still once a name has changed at a version above all of the snapshot's

@@ -6,8 +6,9 @@ ghost use Rattle.std.specs.Result.{result_err};
 ghost use Rattle.lru.specs.LruCache.{lru_cache};
 ghost use Rattle.dirfrag_codec.specs.EntryRecord.{IsRecordable};
 ghost use Rattle.objstore.specs.Objects.{MayRefuse, faults_told, written};
-ghost use Rattle.dentry_cache.specs.Commits.{IsCommitted, MayNotBegin, TakesSnap, job_leaf, leaf_text};
-ghost use Rattle.cached_frag.specs.Cached.{Cached, shown_names};
+ghost use Rattle.dentry_cache.specs.Commits.{IsCommitted, job_leaf, leaf_text};
+ghost use Rattle.cached_frag.specs.Cached.{Cached, shown_names, snapshot_of};
+ghost use Rattle.cached_frag.specs.Snap.{IsBelowEnd};
 ghost use Rattle.cached_frag.specs.Moving.{TakesIn};
 ghost use Rattle.mds_types.specs.declared.refusals.Refusal.TheVariants.{NothingToEvict};
 ghost use Rattle.mds_types.specs.Leaf.{leaf_of};
@@ -238,15 +239,13 @@ impl Caches {
         drop(self.take(at));
     }
 
-    /// A snapshot of a fragment as it stands; none, where it is clean. Takes memory for the dirty names.
-    ///
-    /// Refused `NoInodes` where no commit version is left for one that isn't clean, and `NoMemory`.
-    pub fn begin_commit(&mut self, at: Dirfrag) -> Result<Option<Snapshot>, Refusal>
+    /// A snapshot of a fragment as it stands, for which a commit version is left. Takes memory for the dirty names.
+    pub fn begin_commit(&mut self, at: Dirfrag) -> Result<Snapshot, AllocError>
         requires there { at.rank.0 < length self.old.used }
-        requires cached { IsThere (here self.old at.rank.0 (leaf_of at)) }
-        ensures taken { IfOk result (λ taken. HasCached (here self.old at.rank.0 (leaf_of at)) (TakesSnap taken)) }
-        ensures refused { IfErr result
-            (λ refusal. HasCached (here self.old at.rank.0 (leaf_of at)) (MayNotBegin refusal)) }
+        requires begins { HasCached (here self.old at.rank.0 (leaf_of at)) (λ (f : Cached). IsBelowEnd f.base) }
+        ensures taken { IfOk result
+            (λ snapshot. HasCached (here self.old at.rank.0 (leaf_of at))
+            (λ (f : Cached). snapshot ≡ snapshot_of f)) }
         ensures used { self.new ≡ used_at self.old at.rank.0 (leaf_of at) }
     {
         self.caches[at.rank.0 as usize].begin_commit(at.dir, at.frag)

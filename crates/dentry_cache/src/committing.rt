@@ -1,37 +1,32 @@
 //! Commits of cached fragments.
-ghost use Rattle.std.specs.Prelude.{◌≡◌, ◌+◌, ◌≤◌, ◌↔◌, IsTrue, IsOk, Option, None, OnOk, OnErr, IfOk, IfErr, IfSome};
+ghost use Rattle.std.specs.Prelude.{◌≡◌, ◌+◌, ◌≤◌, IsOk, OnOk, OnErr, IfOk, IfErr};
 ghost use Rattle.std.specs.FinMap as map;
 ghost use Rattle.objstore.specs.Objects.{MayRefuse, faults_told, written};
 ghost use Rattle.std.specs.Result.{result_err};
-ghost use Rattle.cached_frag.specs.Snap.{IsBelowEnd, IsSnap};
-ghost use Rattle.cached_frag.specs.Cached.{Cached};
+ghost use Rattle.cached_frag.specs.Snap.{IsBelowEnd};
+ghost use Rattle.cached_frag.specs.Cached.{Cached, snapshot_of};
 ghost use Rattle.dentry_cache.specs.Cache.{HasCached, IsChanged, IsThere, IsWritten, cached};
 ghost use Rattle.dentry_cache.specs.Calls.{AreCalls};
-ghost use Rattle.dentry_cache.specs.Commits.{IsCleanedOf, IsCommitted, MayNotBegin, TakesSnap, leaf_text};
+ghost use Rattle.dentry_cache.specs.Commits.{IsCleanedOf, IsCommitted, leaf_text};
 
 use crate::cache::Cache;
-use cached_frag::{Base, CachedFrag, DirtyNames, Encoded, Snapshot};
+use cached_frag::{DirtyNames, Encoded, Snapshot};
 use mds_types::{Frag, Ino, ObjName, Refusal, Spelt};
 use objstore::Store;
 use std::alloc::{AllocError, Global};
 
 impl Cache {
-    /// A snapshot of a fragment as it stands; none, where it is clean. Takes memory for the dirty names.
-    ///
-    /// Refused `NoInodes` where no commit version is left for one that isn't clean, and `NoMemory`.
-    pub fn begin_commit(&mut self, dir: Ino, frag: Frag) -> Result<Option<Snapshot>, Refusal>
-        requires { IsThere (cached self.old.entries (dir, frag)) }
-        ensures taken { IfOk result (λ taken. HasCached (cached self.old.entries (dir, frag)) (TakesSnap taken)) }
-        ensures refused { IfErr result
-            (λ refusal. HasCached (cached self.old.entries (dir, frag)) (MayNotBegin refusal)) }
+    /// A snapshot of a fragment as it stands, for which a commit version is left. Takes memory for the dirty names.
+    pub fn begin_commit(&mut self, dir: Ino, frag: Frag) -> Result<Snapshot, AllocError>
+        requires { HasCached (cached self.old.entries (dir, frag)) (λ (f : Cached). IsBelowEnd f.base) }
+        ensures taken { IfOk result
+            (λ snapshot. HasCached (cached self.old.entries (dir, frag))
+            (λ (f : Cached). snapshot ≡ snapshot_of f)) }
         ensures used { IsChanged (cached self.old.entries (dir, frag))
             (λ (f now : Cached). now ≡ f) (dir, frag) self.old self.new }
     {
         let _ = self.touch(dir, frag);
-        match self.get(dir, frag) {
-            Some(fragment) => snapshot_of(fragment),
-            None => Ok(None),
-        }
+        self.get(dir, frag).unwrap().snapshot()
     }
 
     /// Writes a snapshot of a fragment to its object, in one operation. What was dirty at the snapshot's versions is
@@ -109,34 +104,6 @@ impl Cache {
             return;
         };
         place.frag.settle(names, version);
-    }
-}
-
-// The snapshot of a fragment; none, where it is clean.
-fn snapshot_of(fragment: &CachedFrag) -> Result<Option<Snapshot>, Refusal>
-    ensures taken { IfOk result (λ taken. TakesSnap taken fragment.now) }
-    ensures valid { IfOk result (λ taken. IfSome taken IsSnap) }
-    ensures refused { IfErr result (λ refusal. MayNotBegin refusal fragment.now) }
-{
-    if fragment.is_clean() {
-        return Ok(None);
-    }
-    if !is_below_end(fragment.base()) {
-        return Err(Refusal::NoInodes);
-    }
-    let snapshot = fragment.snapshot()?;
-    // The contract of `base` is what says here that it is a snapshot.
-    let _ = snapshot.base();
-    Ok(Some(snapshot))
-}
-
-// Whether another commit version can follow.
-fn is_below_end(base: Base) -> bool
-    ensures { IsTrue result ↔ IsBelowEnd base }
-{
-    match base {
-        Base::Fresh => true,
-        Base::Stored(version) => version < u64::MAX,
     }
 }
 

@@ -1,5 +1,5 @@
 //! The leaves of fragments that aren't clean.
-ghost use Rattle.std.specs.Prelude.{◌≡◌, ◌≤◌, ◌++◌, length, take, OnOk, IfOk};
+ghost use Rattle.std.specs.Prelude.{◌≡◌, ◌≤◌, ◌++◌, length, OnOk, IfOk};
 ghost use Rattle.dentry_cache.specs.CacheMap.{AreCaches};
 ghost use Rattle.dentry_cache.specs.Unclean.{is_unclean, unclean_leaves_in, unclean_places};
 
@@ -18,21 +18,19 @@ impl Place {
 }
 
 impl Cache {
-    /// Puts the leaves of fragments that aren't clean behind others, each at this rank, the most recently used first,
-    /// until there are so many. Takes memory for them.
+    /// Puts the leaves of fragments that aren't clean behind others, each at this rank, the most recently used first.
+    /// Takes memory for them.
     pub(crate) fn add_unclean(
         &self,
         rank: Rank,
-        most: usize,
         leaves: &mut Vec<Dirfrag>,
     ) -> Result<(), AllocError>
-        requires { length leaves.old.items ≤ most }
         ensures added { OnOk result
-            (leaves.new.items ≡ take most (leaves.old.items ++ unclean_leaves_in rank self.now.entries)) }
+            (leaves.new.items ≡ leaves.old.items ++ unclean_leaves_in rank self.now.entries) }
     {
         let mut rest = self.places.iter();
         while let Some((leaf, place)) = rest.next() {
-            if leaves.len() < most && place.is_unclean() {
+            if place.is_unclean() {
                 leaves.push(Dirfrag {
                     dir: leaf.0,
                     frag: leaf.1,
@@ -46,15 +44,15 @@ impl Cache {
 
 impl Caches {
     /// The leaves of fragments that aren't clean, each with the rank that has it: rank after rank, and of each the most
-    /// recently used first. No more than so many. Takes memory for them; each place is looked at.
-    pub fn unclean_leaves(&self, alloc: Global, most: usize) -> Result<Vec<Dirfrag>, AllocError>
+    /// recently used first. Takes memory for them, 24 bytes for each; each place is looked at.
+    pub fn unclean_leaves(&self, alloc: Global) -> Result<Vec<Dirfrag>, AllocError>
         requires { length self.now.used ≤ 256 }
-        ensures leaves { IfOk result (λ leaves. leaves.items ≡ take most (unclean_places self.now)) }
+        ensures leaves { IfOk result (λ leaves. leaves.items ≡ unclean_places self.now) }
         ensures valid { AreCaches self.now }
     {
         let mut leaves = Vec::new(alloc);
         for index in 0..self.caches.len() {
-            self.caches[index].add_unclean(Rank(index as u8), most, &mut leaves)?;
+            self.caches[index].add_unclean(Rank(index as u8), &mut leaves)?;
         }
         Ok(leaves)
     }

@@ -1,6 +1,7 @@
 pub mod Common
 pub mod ExportLaws
 pub mod GatherLaws
+pub mod KnownLaws
 pub mod ManyLaws
 pub mod NameLaws
 pub mod PickLaws

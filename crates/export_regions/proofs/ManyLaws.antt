@@ -1,5 +1,5 @@
 -- As many fragments are sent as leaves were found that aren't clean.
-use Rattle.export_regions.proofs.Common.{AllByRecursion, AreUncleanAt, Bool, CacheMap, Cached, Dirfrag, Export, IsDistinct, IsDistinct-head, IsDistinct-tail, IsExportFrom, Leaf, List, None, Option, Rank, SentFrag, Some, [], ap, arith, cond, false, gathered, get_tabulate, here, is_some, leaf-total, leaf_cmp, leaf_is, len-empty, len-entries, len-insert, length, length-map, list_any, option_map, refl, sent_from, suc, sym, tabulate, true, unclean_in, with_some, ℕ, ◌+◌, ◌||◌, ◌∙◌, ◌∷◌, ◌≡◌}
+use Rattle.export_regions.proofs.Common.{AllByRecursion, AreUncleanAt, Bool, CacheMap, Cached, Dirfrag, Export, IsDistinct, IsDistinct-head, IsDistinct-tail, IsExportFrom, Leaf, List, None, Option, Rank, SentFrag, Some, [], ap, arith, cond, false, gathered, get_tabulate, here, is_some, leaf-total, leaf_cmp, leaf_is, len-empty, len-entries, len-insert, length, length-map, list_any, option_map, refl, sent_from, suc, sym, tabulate, true, unclean_in, with_some, ◌+◌, ◌∙◌, ◌∷◌, ◌≡◌}
 use Rattle.std.specs.FinMap as map
 
 pub all_so : (P Q : Leaf → Type 0) → ((q : Leaf) → P q → Q q) → (xs : List Leaf) → AllByRecursion P xs → AllByRecursion Q xs

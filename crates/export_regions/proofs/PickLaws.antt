@@ -53,6 +53,13 @@ module _ (In : Leaf → Type 0) where
           clean = passed_by clean_in leaf o places all leaves.clean then.clean (λ both. no (told ∙ ap clean_in (sym some) ∙ both.0));
         }
 
+  -- at first nothing is picked, and all places are to come
+  pub none_picked : (places all : List PlaceOf) (leaves : RegionLeaves) → places ≡ all → leaves ≡ record { unclean = []; clean = [] } → IsPicking places all leaves
+  none_picked places all leaves same none = record {
+    unclean = λ tail picks. subst (λ (l : RegionLeaves). Picks In unclean_in all (l.unclean ++ tail)) (sym none) (subst (λ (ps : List PlaceOf). Picks In unclean_in ps tail) same picks);
+    clean = λ tail picks. subst (λ (l : RegionLeaves). Picks In clean_in all (l.clean ++ tail)) (sym none) (subst (λ (ps : List PlaceOf). Picks In clean_in ps tail) same picks);
+  }
+
   pub all_picked : (test : Option Cached → Bool) (places all : List PlaceOf) (have : List Leaf) → places ≡ [] → ((tail : List Leaf) → Picks In test places tail → Picks In test all (have ++ tail)) → Picks In test all have
   all_picked test places all have none so_far = subst (Picks In test all) (append-nil have) (so_far [] (subst (λ (ps : List PlaceOf). Picks In test ps []) (sym none) refl))
 

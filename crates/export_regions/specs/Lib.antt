@@ -1,4 +1,5 @@
 pub mod Counts
+pub mod KnownDirs
 pub mod Regions
 pub mod Sending
 pub mod Spelling

@@ -3,6 +3,7 @@
 
 mod counts;
 mod gathering;
+mod known_dirs;
 pub mod laws;
 mod leaves;
 mod regions;

@@ -5,6 +5,7 @@ ghost use Rattle.subtree_map.specs.Authority.{NearestRoot};
 ghost use Rattle.dentry_cache.specs.CacheMap.{AreCaches, order};
 ghost use Rattle.export_regions.specs.Regions.{AreCachedOf, IsOfRegion};
 
+use crate::known_dirs::KnownDirs;
 use crate::leaves::RegionLeaves;
 use dentry_cache::Caches;
 use inode_table::Dirs;
@@ -12,8 +13,8 @@ use mds_types::{Dirfrag, Frag, Ino};
 use std::alloc::{AllocError, Global};
 use subtree_map::Subtrees;
 
-/// The leaves of the region of a root that a rank caches. Takes memory for the list; each place of the rank is looked
-/// at, and where a fragment is in it the way up from its leaf is gone once.
+/// The leaves of the region of a root that a rank caches. Takes memory for the list, and for an answer for each directory
+/// on the way up from a cached leaf; each place of the rank is looked at once, and no way up is climbed twice.
 pub fn leaves_of(
     alloc: Global,
     caches: &Caches,
@@ -28,12 +29,15 @@ pub fn leaves_of(
     ensures valid { AreCaches caches.now }
 {
     let mut leaves = RegionLeaves::new(alloc);
+    let mut known = KnownDirs::new(alloc);
+    let mut way = Vec::new(alloc);
     let mut places = caches.places_of(root.rank);
     while let Some((leaf, fragment)) = places.next_place() {
         let Some(fragment) = fragment else {
             continue;
         };
-        if is_in_region(subtrees, dirs, &root, leaf) {
+        let within = known.is_in(subtrees, dirs, &root, leaf, &mut way)?;
+        if within {
             leaves.add(leaf, fragment.is_clean())?;
         }
     }
@@ -56,8 +60,8 @@ pub(crate) fn is_in_region(
     }
 }
 
-// Whether a leaf is this one.
-fn is_one(leaf: &(Ino, Frag), other: &Dirfrag) -> bool
+/// Whether a leaf is this one.
+pub(crate) fn is_one(leaf: &(Ino, Frag), other: &Dirfrag) -> bool
     ensures { IsTrue result ↔ (leaf.now ≡ leaf_of other.now) }
 {
     leaf.0 == other.dir && leaf.1 == other.frag

@@ -3,7 +3,7 @@ pub use Rattle.export_steps.specs.ByExporter.{AreExports, IsRootBehind, IsFirstK
 pub use Rattle.export_steps.specs.Handover.{CancelsSoundly, FinishesSoundly, FreezesSoundly, HandsOver, KeepFrozen, KeepHolders, StepsSoundly}
 pub use Rattle.export_steps.specs.Holder.{HasHolder, IsFrozen, held_by, holder_or, holding, is_imported, region_holder}
 pub use Rattle.export_steps.specs.Regions.{AreFrozenRegionsKept, IsMakingElsewhere, IsMergeElsewhere, IsMoveElsewhere, IsRemovalElsewhere, IsReplacedElsewhere, IsSplitElsewhere, StandsOver}
-pub use Rattle.export_steps.specs.Standing.{AreBetweenRanks, ArePlaced, Cancels, ComesTo, Finishes, Freezes, IsBetweenRanks, IsCancel, IsFinish, IsFreeze, IsPrep, IsStart, Preps, Standing, Starts, StepsExport, come_to, is_before_send, is_freezing, is_prepared}
+pub use Rattle.export_steps.specs.Standing.{AreBetweenRanks, ArePlaced, Cancels, ComesTo, Finishes, Freezes, IsBetweenRanks, IsCancel, IsFinish, IsFreeze, IsPrep, IsStart, Preps, Standing, Starts, come_to, is_before_send, is_freezing, is_prepared}
 pub use Rattle.export_steps.specs.declared.exports.ExportState.{ExportState}
 pub use Rattle.export_steps.specs.declared.exports.ExportState.TheVariants.{Frozen, Imported, Prepared, Sent, Started}
 pub use Rattle.export_steps.specs.declared.exports.StandingExport.{StandingExport}

@@ -1,5 +1,5 @@
 -- What each step came to, from what its parts did.
-use Rattle.export_steps.proofs.Common.{ArePlaced, Err, Frozen, IfErr, Imported, IsFinish, IsFreeze, IsPrep, IsSome, Leaf, NoMemory, None, Ok, OnErr, OnOk, Option, Prepared, Rank, Refusal, Result, Some, Standing, StandingExport, Started, Starts, Subtrees, WrongExportState, ap, come_to, false, inl, inr, is_freezing, is_prepared, is_some, refl, ◌≡◌}
+use Rattle.export_steps.proofs.Common.{ArePlaced, ComesTo, Err, ExportState, Frozen, IfErr, Imported, IsFinish, IsFreeze, IsPrep, IsSome, Leaf, NoMemory, None, Ok, OnErr, OnOk, Option, Prepared, Rank, Refusal, Result, Some, Standing, StandingExport, Started, Starts, Subtrees, WrongExportState, ap, come_to, false, inl, inr, is_freezing, is_prepared, is_some, refl, ◌≡◌}
 use Rattle.std.specs.FinMap as map
 
 is_none : {A : Type 0} (o : Option A) → is_some o ≡ false → o ≡ None
@@ -16,6 +16,9 @@ module _ (old new : Standing) (root : Leaf) where
       → IfErr result (λ reason. reason ≡ NoMemory) → OnErr result (new ≡ old) → Starts old new root exporter importer result
   started exporter importer (Ok done) absent changed why left = (is_none _ absent, changed)
   started exporter importer (Err reason) absent changed why left = (inr (why, is_none _ absent), left)
+
+  pub advanced : (from to : ExportState) (export : StandingExport) → map.get old root ≡ Some export → export.state ≡ from → new ≡ map.insert old root (come_to to export) → ComesTo old new root from to
+  advanced from to export stood was changed = record { export = export; stood = stood; was = was; changed = changed }
 
   pub frozen : (was now : Subtrees) (export : StandingExport) → map.get old root ≡ Some export → export.state ≡ Started → new ≡ map.insert old root (come_to Frozen export) → now.roots ≡ map.insert was.roots root export.exporter
       → now.promises ≡ was.promises → IsFreeze old new was now root

@@ -1,5 +1,5 @@
 -- What Finish changes keeps its place through every step.
-use Rattle.export_steps.proofs.Common.{ArePlaced, Cancels, Err, ExportState, Finishes, Freezes, Frozen, Imported, Leaf, Ok, Prepared, Preps, Rank, Refusal, Result, Roots, Sent, Some, Standing, StandingExport, Started, Starts, StepsExport, Subtrees, ap, come_to, false, get-empty, get_beside, get_left, get_put, get_removed, inl, inr, is_freezing, is_prepared, not_none, one_value, refl, same_or_apart, subst, sym, true, ◌∙◌, ◌≡◌, ◌≢◌, ◌⊎◌}
+use Rattle.export_steps.proofs.Common.{ArePlaced, Cancels, ComesTo, Err, ExportState, Finishes, Freezes, Frozen, Imported, Leaf, Ok, Prepared, Preps, Rank, Refusal, Result, Roots, Sent, Some, Standing, StandingExport, Started, Starts, Subtrees, ap, come_to, false, get-empty, get_beside, get_left, get_put, get_removed, inl, inr, is_freezing, is_prepared, not_none, one_value, refl, same_or_apart, subst, sym, true, ◌∙◌, ◌≡◌, ◌≢◌, ◌⊎◌}
 use Rattle.std.specs.FinMap as map
 
 -- a prepared export is frozen
@@ -80,12 +80,11 @@ module _ (old new : Standing) (root : Leaf) where
       put_placed old new subtrees subtrees root (λ leaf apart. refl) (λ leaf apart. refl) placed (record { exporter = exporter; importer = importer; state = Started }) changed (λ never. let clash : false ≡ true = never in cc, λ never. let clash : false ≡ true = never in cc)
   starts_placed exporter importer (Err reason) (why, left) subtrees placed = same_placed old new subtrees subtrees left refl refl placed
 
-  pub steps_placed : (from to : ExportState) (result : Result (Unit {0}) Refusal) → is_prepared from ≡ true → StepsExport old new root from to result → (subtrees : Subtrees) → ArePlaced old subtrees → ArePlaced new subtrees
-  steps_placed from to (Ok done) prepared comes subtrees placed =
+  pub comes_placed : (from to : ExportState) → is_prepared from ≡ true → ComesTo old new root from to → (subtrees : Subtrees) → ArePlaced old subtrees → ArePlaced new subtrees
+  comes_placed from to prepared comes subtrees placed =
       let its = all_of old subtrees placed root comes.export comes.stood in
       put_placed old new subtrees subtrees root (λ leaf apart. refl) (λ leaf apart. refl) placed (come_to to comes.export) comes.changed
       (λ now. its.0 (ap is_freezing comes.was ∙ prepared_freezing from prepared), λ now. its.1 (ap is_prepared comes.was ∙ prepared))
-  steps_placed from to (Err reason) prepared (why, unfit, left) subtrees placed = same_placed old new subtrees subtrees left refl refl placed
 
   pub freezes_placed : (was now : Subtrees) (result : Result (Unit {0}) Refusal) → Freezes old new was now root result → ArePlaced old was → ArePlaced new now
   freezes_placed was now (Ok done) is placed =

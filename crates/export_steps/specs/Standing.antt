@@ -62,12 +62,6 @@ pub record ComesTo (old new : Standing) (root : Leaf) (from to : ExportState) : 
   pub was : export.state ≡ from
   pub changed : new ≡ map.insert old root (come_to to export)
 
--- a step takes the export of a root from one state to the next; where none stands in that state it is refused, and
--- nothing changes
-abbrev pub StepsExport : Standing → Standing → Leaf → ExportState → ExportState → Result (Unit {0}) Refusal → Type 0
-StepsExport old new root from to (Ok done) = ComesTo old new root from to
-StepsExport old new root from to (Err reason) = (reason ≡ WrongExportState) × (state_at old root ≢ Some from) × (new ≡ old)
-
 -- Start: no export of the root stood, and one does now, from exporter to importer
 abbrev pub IsStart : Standing → Standing → Leaf → Rank → Rank → Type 0
 IsStart old new root exporter importer =

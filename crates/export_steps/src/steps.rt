@@ -7,7 +7,7 @@ ghost use Rattle.mds_types.specs.Leaf.{leaf_cmp};
 ghost use Rattle.subtree_map.specs.Changes.{Subtrees as SubtreesSeen};
 ghost use Rattle.export_steps.specs.declared.exports.ExportState.TheVariants as state;
 ghost use Rattle.export_steps.specs.ByExporter.{AreExports, RootsBy, by_cmp};
-ghost use Rattle.export_steps.specs.Standing.{AreKept, IsBetweenRanks, ArePlaced, Cancels, Finishes, Freezes, IsNoRootYet, Preps, Starts, StepsExport, come_to, is_before_send, is_freezing, state_at};
+ghost use Rattle.export_steps.specs.Standing.{AreKept, IsBetweenRanks, ArePlaced, Cancels, ComesTo, Finishes, Freezes, IsNoRootYet, Preps, Starts, come_to, is_before_send, is_freezing, state_at};
 
 use crate::exports::{ExportState, Exports, StandingExport};
 use inode_table::Dirs;
@@ -114,28 +114,24 @@ impl Exports {
         Ok(())
     }
 
-    /// Send: the bytes of a region whose importer is prepared are handed out. Takes no memory.
-    ///
-    /// # Errors
-    /// `WrongExportState` where no prepared export of this root stands; then all is left as it was.
-    pub fn send(&mut self, dir: Ino, frag: Frag) -> Result<(), Refusal>
-        ensures outcome { StepsExport self.old self.new (dir, frag) state.Prepared state.Sent result }
+    /// Send: the bytes of the region of this prepared export of a root are handed out. Takes no memory.
+    pub fn send(&mut self, dir: Ino, frag: Frag, export: StandingExport)
+        requires stands { map.get self.old (dir, frag) ≡ Some export }
+        requires prepared { export.state ≡ state.Prepared }
+        ensures outcome { ComesTo self.old self.new (dir, frag) state.Prepared state.Sent }
         ensures placed { (subtrees : SubtreesSeen) → ArePlaced self.old subtrees → ArePlaced self.new subtrees }
     {
-        let (from, to) = (ExportState::Prepared, ExportState::Sent);
-        advance(&mut self.rows, dir, frag, from, to)
+        put_state(&mut self.rows, dir, frag, export, ExportState::Sent);
     }
 
-    /// Import: the importer holds a region that was sent. Takes no memory.
-    ///
-    /// # Errors
-    /// `WrongExportState` where no sent export of this root stands; then all is left as it was.
-    pub fn import(&mut self, dir: Ino, frag: Frag) -> Result<(), Refusal>
-        ensures outcome { StepsExport self.old self.new (dir, frag) state.Sent state.Imported result }
+    /// Import: the importer holds the region of this sent export of a root. Takes no memory.
+    pub fn import(&mut self, dir: Ino, frag: Frag, export: StandingExport)
+        requires stands { map.get self.old (dir, frag) ≡ Some export }
+        requires sent { export.state ≡ state.Sent }
+        ensures outcome { ComesTo self.old self.new (dir, frag) state.Sent state.Imported }
         ensures placed { (subtrees : SubtreesSeen) → ArePlaced self.old subtrees → ArePlaced self.new subtrees }
     {
-        let (from, to) = (ExportState::Sent, ExportState::Imported);
-        advance(&mut self.rows, dir, frag, from, to)
+        put_state(&mut self.rows, dir, frag, export, ExportState::Imported);
     }
 
     /// Finish: the importer of an imported region is its authority, and the export is over. Takes no memory: what it
@@ -305,23 +301,4 @@ fn end(
 {
     let _ = rows.remove(&(dir, frag));
     let _ = by.remove(&(export.exporter.0, (dir, frag)));
-}
-
-// Takes the export of a root from one state to another.
-fn advance(
-    rows: &mut SortedMap<(Ino, Frag), StandingExport>,
-    dir: Ino,
-    frag: Frag,
-    from: ExportState,
-    to: ExportState,
-) -> Result<(), Refusal>
-    ensures outcome { StepsExport (contents leaf_cmp rows.old) (contents leaf_cmp rows.new) (dir, frag) from to result }
-    ensures kept { (by : RootsBy) → AreExports (contents leaf_cmp rows.old) by
-        → AreExports (contents leaf_cmp rows.new) by }
-{
-    let Some(export) = find_in(rows, dir, frag, from) else {
-        return Err(Refusal::WrongExportState);
-    };
-    put_state(rows, dir, frag, export, to);
-    Ok(())
 }

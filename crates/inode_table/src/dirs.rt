@@ -123,12 +123,13 @@ impl Dirs {
         Some(&self.below.get_near(&self.near.get(), &dir.0)?.home)
     }
 
-    /// Whether this is the number of a directory: the root, or one that was adopted.
+    /// Whether this is the number of a directory: the root, or one that was adopted. Takes no memory, and one search;
+    /// calls for the same directory that follow find its row where it is.
     pub fn contains(&self, dir: Ino) -> bool
         ensures known { result ≡ is_known self.now.homes dir.0 }
         ensures valid { IsTable self.now.homes self.now.trees }
     {
-        dir == Ino::ROOT || self.below.contains(&dir.0)
+        dir == Ino::ROOT || self.below.get_near_noting(&self.near, &dir.0).is_some()
     }
 
     /// The leaves of a directory, as a copy that its changes don't touch. Takes memory for leaves that were set, and
@@ -316,7 +317,8 @@ impl Dirs {
             self.root = Some(tree);
             return;
         }
-        let Some(row) = self.below.get_mut(&dir.0) else {
+        let near = self.near.get();
+        let Some(row) = self.below.get_mut_near(&near, &dir.0) else {
             unreachable!()
         };
         row.settings.set_leaves(tree);
@@ -338,7 +340,8 @@ impl Dirs {
         if dir == Ino::ROOT {
             return split_in(alloc, &mut self.root, frag, bits);
         }
-        let Some(row) = self.below.get_mut(&dir.0) else {
+        let near = self.near.get();
+        let Some(row) = self.below.get_mut_near(&near, &dir.0) else {
             unreachable!()
         };
         row.settings.split(alloc, frag, bits)

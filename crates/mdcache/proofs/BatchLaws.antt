@@ -1,16 +1,16 @@
 -- Commits of whole fragments, several at once.
-use Rattle.mdcache.proofs.Common.{AllByRecursion, AreOfOtherLeaves, Begins, BeginsUnsaved, Begun, CacheMap, Came, CommitsWhole, Core, Dirfrag, EndsJobOf, Err, HasFragment, IsBegunAt, IsEnded, IsFree, IsLive, IsReadyWrite, IsSound, IsSoundCore, IsThat, IsUncleanAt, Job, Jobs, KeepsTree, Leaf, List, MayHold, MayNotBeginAll, MayNotBeginOne, None, NoneEnds, NotAmong, Ok, Option, Rank, Ready, Refusal, Some, State, Unsaved, UnsavedLeaves, [], ap, append_assoc, arith, came_held, came_ranks, came_weaker, committed, cond, drop, drop_more, empty_of_len, false, get-empty, get_or, inl, inr, is_some, leaves_of_places, leaves_of_jobs, leaves_of_writes, len-remove, length, map-append, ready_of, refl, rules, shown_tree, state_of, subst, suc, sym, true, unclean, with_job, zero, ℕ, ⊎_elim, ◌++◌, ◌+◌, ◌-◌, ◌<◌, ◌∙◌, ◌∷◌, ◌≡◌}
+use Rattle.mdcache.proofs.Common.{AllByRecursion, AreOfOtherLeaves, Base, Begins, BeginsUnsaved, Begun, CacheMap, Came, CommitsWhole, Core, Dirfrag, EndsJobOf, Err, HasFragment, IfErr, IfOk, IsBegunAt, IsEnded, IsFree, IsFreeFor, IsLive, IsReadyWrite, IsSound, IsSoundCore, IsThat, IsUncleanAt, Job, Jobs, KeepsTree, Leaf, LeavesOthers, List, MayHold, MayNotBeginAll, MayNotBeginOne, None, NoneEnds, NotAmong, Ok, OnErr, Option, Rank, Ready, Refusal, Some, State, Unsaved, UnsavedLeaves, [], ap, append_assoc, arith, came_held, came_ranks, came_weaker, committed, cond, drop, drop_more, empty_of_len, false, get-empty, get_or, here as here_of, inl, inr, is_some, leaves_of_places, leaves_of_jobs, leaves_of_writes, len-remove, length, map-append, option_map, ready_of, refl, rules, shown_tree, state_of, subst, suc, sym, take, take-map, told_of, true, unclean, unsaved_in, with_job, zero, ℕ, ⊎_elim, ◌++◌, ◌+◌, ◌-◌, ◌<◌, ◌∙◌, ◌∷◌, ◌≡◌}
 use Rattle.std.proofs.Common.{map as list_map, Result}
 use Rattle.std.specs.FinMap as map
 use Rattle.mds_types.specs.Leaf.{leaf_of as leaf_at}
 use Rattle.mdcache.specs.Commits.{leaf_of_job}
 use Rattle.mdcache.proofs.AtHandLaws.{begun_are_at_hand, begun_leave_at_hand, ended_are_clean, others_stay_at_hand}
 use Rattle.mdcache.proofs.CommittedLaws.{whole_then}
-use Rattle.mdcache.proofs.EndLaws.{unclean_is_there}
+use Rattle.mdcache.proofs.EndLaws.{unclean_here, unclean_is_there}
 use Rattle.mdcache.proofs.KeptTree.{steps_keep_tree, there_at}
-use Rattle.mdcache.proofs.PlacesLaws.{all_append, all_weaker}
+use Rattle.mdcache.proofs.PlacesLaws.{all_append, all_drop, all_weaker, apart_take}
 use Rattle.inode_table.proofs.Chains.{some_of}
-use Rattle.mds_types.proofs.LeafLaws.{get_beside, leaf-total}
+use Rattle.mds_types.proofs.LeafLaws.{get_beside, get_left, leaf-total}
 
 -- a commit that began left its job, and nothing else
 begun_left : (old new : State) (leaf : Leaf) (job : Job) (o : Option Unsaved) → BeginsUnsaved old new leaf o (Some job) → new ≡ with_job old job
@@ -26,11 +26,15 @@ module _ (old new : Core) (rank : Rank) (leaf : Leaf) (may : MayHold old.caches 
   keeps s left tree = search (rules, came_there)
 
   -- a commit begins, or doesn't
-  pub begin_keeps : (job : Job) → Begins (state_of old) (state_of new) leaf (Ok (Some job)) → KeepsTree old new
+  begin_keeps : (job : Job) → Begins (state_of old) (state_of new) leaf (Ok (Some job)) → KeepsTree old new
   begin_keeps job begun = let left = begun_left (state_of old) (state_of new) leaf job (map.get (unclean old.caches) leaf) begun.2 in keeps (with_job (state_of old) job) left (ap shown_tree left)
 
-  pub refused_keeps : state_of new ≡ state_of old → KeepsTree old new
+  refused_keeps : state_of new ≡ state_of old → KeepsTree old new
   refused_keeps same = keeps (state_of old) same (ap shown_tree same)
+
+  pub either_keeps : (result : Result Job Refusal) → IfOk result (λ job. Begins (state_of old) (state_of new) leaf (Ok (Some job))) → IfErr result (λ reason. Begins (state_of old) (state_of new) leaf (Err reason)) → KeepsTree old new
+  either_keeps (Ok job) begun refused = begin_keeps job begun
+  either_keeps (Err reason) begun refused = refused_keeps refused.1
 
   -- a commit ends, or doesn't
   pub ends_keeps : (before after : ℕ) (job : Job) (result : Result (Unit {0}) Refusal) → EndsJobOf (state_of old) (state_of new) before after job result → KeepsTree old new
@@ -45,6 +49,19 @@ unclean_live s leaf sound dirty = let u = some_of (map.get s.unsaved leaf) dirty
 pub begin_refused : (s : State) (new : State) (leaf : Leaf) (reason : Refusal) → IsSound s → is_some (map.get s.unsaved leaf) ≡ true → map.get s.jobs leaf ≡ None → Begins s new leaf (Err reason) → MayNotBeginOne s leaf reason
 begin_refused s new leaf reason sound dirty free refused = ⊎_elim (λ no. absurd (no.1 (unclean_live s leaf sound dirty)))
     (⊎_elim (λ stands. let clash : false ≡ true = ap is_some (sym free) ∙ stands.2 in absurd cc) (λ w. ⊎_elim (λ lacks. inr (lacks.0, (w.2, w.3, lacks.1))) (λ memory. inl memory.0) w.4)) refused.0
+
+-- nothing changes where one is refused
+pub refused_left : (s new : State) (leaf : Leaf) (result : Result Job Refusal) → IfErr result (λ reason. Begins s new leaf (Err reason)) → OnErr result (new ≡ s)
+refused_left s new leaf (Ok job) refused = tt
+refused_left s new leaf (Err reason) refused = refused.1
+
+-- of a leaf that isn't clean base and generation are told
+pub told_some : (c : CacheMap) (r : ℕ) (leaf : Leaf) → IsFreeFor c r leaf → is_some (map.get (unclean c) leaf) ≡ true → is_some (told_of (here_of c r leaf)) ≡ true
+told_some c r leaf free dirty = mapped (unsaved_in (here_of c r leaf)) (ap is_some (sym (unclean_here c r leaf free)) ∙ dirty)
+  where
+    mapped : (o : Option Unsaved) → is_some o ≡ true → is_some {T = Base × ℕ} (option_map (λ (u : Unsaved). (u.base, u.generation)) o) ≡ true
+    mapped None some = some
+    mapped (Some u) some = refl
 
 -- ---- others, while one begins
 
@@ -156,12 +173,19 @@ some_len m k some = elim (map.len m) as (λ n. map.len m ≡ n → 0 < n) [
   | suc n ↦ λ is. omega arith
 ] refl
 
+-- a leaf apart from all writes is apart from those behind the first so many
+apart_later : (q : Leaf) (i : ℕ) (ready : List Ready) → NotAmong q (leaves_of_writes ready) → NotAmong q (leaves_of_writes (drop i ready))
+apart_later q zero ready apart = apart
+apart_later q (suc i) [] apart = tt
+apart_later q (suc i) (r ∷ ready) (other, apart) = apart_later q i ready apart
+
 -- so far the first of these commits have ended, and the others are at hand
 pub record EndsFirst (old now : Core) (ready : List Ready) (i : ℕ) : Type 0 where
   pub rest : AllByRecursion (IsReadyWrite now) (drop i ready)
   pub apart : AreOfOtherLeaves (leaves_of_writes (drop i ready))
   pub whole : CommitsWhole (state_of old) (state_of now)
   pub fewer : map.len (unclean now.caches) + i ≡ map.len (unclean old.caches)
+  pub others : LeavesOthers (leaves_of_writes ready) (unclean old.caches) (unclean now.caches)
   pub tree : KeepsTree old now
   pub faults : now.faults ≡ old.faults
   pub sound : IsSoundCore now
@@ -173,8 +197,9 @@ ends_next old now new ready i one within is so_far ended whole keeps_it same sou
     let all = subst (AllByRecursion (IsReadyWrite now)) (rest_is ready i one within is) so_far.rest in
     let apart = subst (λ rs. AreOfOtherLeaves (leaves_of_writes rs)) (rest_is ready i one within is) so_far.apart in
     let there : is_some (map.get (unclean now.caches) (leaf_of_job one.encoded.job)) ≡ true = ap is_some all.0.hand.beside in
+    let removed = ended_are_clean (state_of now) (state_of new) one.encoded.job all.0.hand ended in
     let less : map.len (unclean new.caches) ≡ map.len (unclean now.caches) - 1 =
-    ap (λ (m : UnsavedLeaves). map.len m) (ended_are_clean (state_of now) (state_of new) one.encoded.job all.0.hand ended)
+    ap (λ (m : UnsavedLeaves). map.len m) removed
     ∙ len-remove leaf-total (unclean now.caches) (leaf_of_job one.encoded.job) ∙ ap (λ b. cond {A = ℕ} b (map.len (unclean now.caches) - 1) (map.len (unclean now.caches))) there in
     let some = some_len (unclean now.caches) (leaf_of_job one.encoded.job) there in
     let fewer = so_far.fewer in
@@ -186,6 +211,11 @@ ends_next old now new ready i one within is so_far ended whole keeps_it same sou
       apart = apart.1;
       whole = whole_then (state_of old) (state_of now) (state_of new) so_far.whole whole;
       fewer = omega (arith, less, some, fewer);
+      others = record {
+        same = λ q others.
+            let this = subst (λ rs. NotAmong q (leaves_of_writes rs)) (rest_is ready i one within is) (apart_later q i ready others) in
+            ap (λ (m : UnsavedLeaves). map.get m q) removed ∙ get_left (unclean now.caches) (leaf_of_job one.encoded.job) q (λ same. this.0 (sym same)) ∙ so_far.others.same q others;
+      };
       tree = steps_keep_tree old now new so_far.tree keeps_it;
       faults = same ∙ so_far.faults;
       sound = sound;
@@ -199,3 +229,74 @@ begun_ready core (b ∷ begun) (one, all) = (one, begun_ready core begun all)
 pub leaves_ready : (begun : List Begun) → leaves_of_writes (list_map ready_of begun) ≡ leaves_of_jobs begun
 leaves_ready [] = refl
 leaves_ready (b ∷ begun) = ap (λ ls. leaf_of_job b.job ∷ ls) (leaves_ready begun)
+
+-- ---- batch after batch
+
+-- the leaves of a part of a list are apart too
+pub apart_first : (n : ℕ) (places : List Dirfrag) → AreOfOtherLeaves (leaves_of_places places) → AreOfOtherLeaves (leaves_of_places (take n places))
+apart_first n places apart = subst AreOfOtherLeaves (take-map (λ (a : Dirfrag). leaf_at a) n places) (apart_take n (leaves_of_places places) apart)
+
+apart_rest : (n : ℕ) (places : List Dirfrag) → AreOfOtherLeaves (leaves_of_places places) → AreOfOtherLeaves (leaves_of_places (drop n places))
+apart_rest zero places apart = apart
+apart_rest (suc n) [] apart = tt
+apart_rest (suc n) (a ∷ places) (_, apart) = apart_rest n places apart
+
+-- each leaf of the rest is apart from those of the first part
+rest_apart : (n : ℕ) (places : List Dirfrag) → AreOfOtherLeaves (leaves_of_places places) → AllByRecursion (λ (a : Dirfrag). NotAmong (leaf_at a) (leaves_of_places (take n places))) (drop n places)
+rest_apart zero places apart = none places
+  where
+    none : (ps : List Dirfrag) → AllByRecursion (λ (a : Dirfrag). NotAmong (leaf_at a) []) ps
+    none [] = tt
+    none (p ∷ ps) = (tt, none ps)
+rest_apart (suc n) [] apart = tt
+rest_apart (suc n) (a ∷ places) (each, apart) = joined (drop n places) (behind n places each) (rest_apart n places apart)
+  where
+    behind : (k : ℕ) (ps : List Dirfrag) → NotAmong (leaf_at a) (leaves_of_places ps) → AllByRecursion (λ (p : Dirfrag). leaf_at p ≡ leaf_at a → ⊥) (drop k ps)
+    behind zero [] all = tt
+    behind zero (p ∷ ps) (other, all) = (other, behind zero ps all)
+    behind (suc k) [] all = tt
+    behind (suc k) (p ∷ ps) (other, all) = behind k ps all
+
+    joined : (ps : List Dirfrag) → AllByRecursion (λ (p : Dirfrag). leaf_at p ≡ leaf_at a → ⊥) ps → AllByRecursion (λ (p : Dirfrag). NotAmong (leaf_at p) (leaves_of_places (take n places))) ps
+        → AllByRecursion (λ (p : Dirfrag). NotAmong (leaf_at p) (leaf_at a ∷ leaves_of_places (take n places))) ps
+    joined [] each all = tt
+    joined (p ∷ ps) (other, each) (one, all) = (((λ same. other (sym same)), one), joined ps each all)
+
+-- so far the first of these leaves were committed, and the rest aren't clean
+pub record CommitsFirst (old now : Core) (leaves rest : List Dirfrag) : Type 0 where
+  pub apart : AreOfOtherLeaves (leaves_of_places rest)
+  pub dirty : AllByRecursion (IsUncleanAt now.caches) rest
+  pub whole : CommitsWhole (state_of old) (state_of now)
+  pub jobs : now.jobs ≡ map.empty
+  pub number : now.next_job ≡ old.next_job
+  pub fewer : map.len (unclean now.caches) + length leaves ≡ map.len (unclean old.caches) + length rest
+  pub tree : KeepsTree old now
+  pub faults : now.faults ≡ old.faults
+  pub sound : IsSoundCore now
+
+-- a batch later
+module _ (old now new : Core) (leaves rest batch after : List Dirfrag) (n : ℕ) (front : batch ≡ take n rest) (back : after ≡ drop n rest) (parts : length after + length batch ≡ length rest) (so_far : CommitsFirst old now leaves rest) where
+  module _ (others : LeavesOthers (leaves_of_places batch) (unclean now.caches) (unclean new.caches)) (keeps_it : KeepsTree now new) where
+    still : (xs : List Dirfrag) → AllByRecursion (IsUncleanAt now.caches) xs → AllByRecursion (λ (a : Dirfrag). NotAmong (leaf_at a) (leaves_of_places batch)) xs → AllByRecursion (IsUncleanAt new.caches) xs
+    still [] all apart = tt
+    still (a ∷ xs) (one, all) (other, apart) = (
+      record { holds = may_hold_on now.caches new.caches keeps_it.caches a.rank (leaf_at a) one.holds; dirty = ap is_some (others.same (leaf_at a) other) ∙ one.dirty },
+      still xs all apart,
+    )
+
+    pub commits_next : CommitsWhole (state_of now) (state_of new) → new.jobs ≡ map.empty → new.next_job ≡ now.next_job → map.len (unclean new.caches) + length batch ≡ map.len (unclean now.caches)
+        → new.faults ≡ now.faults → IsSoundCore new → CommitsFirst old new leaves after
+    commits_next whole jobs number less faults sound =
+        let fewer = so_far.fewer in
+        let apart = subst (λ ps. AllByRecursion (λ (a : Dirfrag). NotAmong (leaf_at a) (leaves_of_places ps)) (drop n rest)) (sym front) (rest_apart n rest so_far.apart) in
+        record {
+          apart = subst (λ ps. AreOfOtherLeaves (leaves_of_places ps)) (sym back) (apart_rest n rest so_far.apart);
+          dirty = subst (AllByRecursion (IsUncleanAt new.caches)) (sym back) (still (drop n rest) (all_drop (IsUncleanAt now.caches) n rest so_far.dirty) apart);
+          whole = whole_then (state_of old) (state_of now) (state_of new) so_far.whole whole;
+          jobs = jobs;
+          number = number ∙ so_far.number;
+          fewer = omega (arith, fewer, less, parts);
+          tree = steps_keep_tree old now new so_far.tree keeps_it;
+          faults = faults ∙ so_far.faults;
+          sound = sound;
+        }

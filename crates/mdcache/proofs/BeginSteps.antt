@@ -1,5 +1,5 @@
 -- What the beginning of a commit leaves, done or not.
-use Rattle.mdcache.proofs.Common.{AllCachedIn, AreYoung, Base, Begins, BeginsUnsaved, Bool, Bor, Cached, Came, Core, Dirfrag, Err, HasCached, IsAtEnd, IsBelowEnd, IsFreeFor, IsJobOf, IsLive, IsOf, IsSnap, IsSound, IsSoundCore, IsThat, IsThere, Job, Leaf, NoInodes, NoMemory, None, NoneEnds, Ok, Omap, Option, Refusal, Result, Rooms, Some, State, Unsaved, ap, lies_by, cond, cond_both, counts_of, false, here, here_is, inl, inr, is_clean, is_some, job_for, object_of, option_copied, option_map, refl, rules, same_Some, shown_names, shown_at, state_of, stays, subst, sym, tied_show, unsaved_in, used_at, used_core, used_unclean, uses, with_job, with_job_in, ℕ, ◌+◌, ◌∙◌, ◌≡◌}
+use Rattle.mdcache.proofs.Common.{AllCachedIn, AreYoung, Base, Begins, BeginsUnsaved, Bool, Bor, Cached, Came, Core, Dirfrag, Err, HasCached, IfErr, IfOk, IsAtEnd, IsBelowEnd, IsFreeFor, IsJobOf, IsLive, IsOf, IsSnap, IsSound, IsSoundCore, IsThat, IsThere, Job, Leaf, NoInodes, NoMemory, None, NoneEnds, Ok, Omap, OnErr, Option, Refusal, Result, Rooms, Some, State, Unsaved, ap, lies_by, cond, cond_both, counts_of, false, here, here_is, inl, inr, is_clean, is_some, job_for, object_of, option_copied, option_map, refl, rules, same_Some, shown_names, shown_at, state_of, stays, subst, sym, tied_show, unsaved_in, used_at, used_core, used_unclean, uses, with_job, with_job_in, ℕ, ◌+◌, ◌∙◌, ◌≡◌}
 use Rattle.std.specs.FinMap as map
 use Rattle.mds_types.specs.Leaf.{leaf_of as leaf_at}
 use Rattle.dentry_cache.specs.Ties.{IsStillDirty}
@@ -35,6 +35,13 @@ pub record HasBegun (old new : Core) (a : Dirfrag) (result : Result (Option Job)
   pub came : Came (IsThat a.rank.0 (leaf_at a)) NoneEnds old.caches new.caches
   pub sound : IsSoundCore new
 
+-- so it is where the leaf isn't clean
+pub record HasBegunUnsaved (old new : Core) (a : Dirfrag) (result : Result Job Refusal) : Type 0 where
+  pub begun : IfOk result (λ job. Begins (state_of old) (state_of new) (leaf_at a) (Ok (Some job)))
+  pub refused : IfErr result (λ reason. Begins (state_of old) (state_of new) (leaf_at a) (Err reason))
+  pub came : Came (IsThat a.rank.0 (leaf_at a)) NoneEnds old.caches new.caches
+  pub sound : IsSoundCore new
+
 module _ (c view : Core) (is : view ≡ c) (sound : IsSoundCore c) (a : Dirfrag) (free : IsFreeFor c.caches a.rank.0 (leaf_at a)) (live : IsLive c.homes c.covers (leaf_at a)) (none_stands : map.get view.jobs (leaf_at a) ≡ None) where
   abbrev leaf : Leaf
   leaf = leaf_at a
@@ -66,7 +73,7 @@ module _ (c view : Core) (is : view ≡ c) (sound : IsSoundCore c) (a : Dirfrag)
         subst (λ (o : Option Cached). HasCached o (λ (f : Cached). (is_clean f ≡ false) × IsBelowEnd f.base × (generation ≡ f.generation))) (sym its.1)
         (its.2, subst IsBelowEnd its.3 below, its.4)
 
-    pub lacks_number : (reason : Refusal) → (reason ≡ NoInodes) × IsAtEnd view.next_job base → HasBegun c c a (Err reason)
+    lacks_number : (reason : Refusal) → (reason ≡ NoInodes) × IsAtEnd view.next_job base → HasBegun c c a (Err reason)
     lacks_number reason why = record {
       begun = (inr (inr (live, none, u, found, inl (why.0, subst (IsAtEnd s.next_job) its.3 (subst (λ (k : Core). IsAtEnd k.next_job base) is why.1)))), refl);
       came = stays;
@@ -89,7 +96,7 @@ module _ (c view : Core) (is : view ≡ c) (sound : IsSoundCore c) (a : Dirfrag)
       left : IsAtEnd s.next_job u.base → ⊥
       left lacks = enough (subst (λ (k : Core). IsAtEnd k.next_job base) (sym is) (subst (IsAtEnd s.next_job) (sym its.3) lacks))
 
-      pub not_begun : (new : Core) → new ≡ used_core c a room → (reason : Refusal) → reason ≡ NoMemory → HasBegun c new a (Err reason)
+      not_begun : (new : Core) → new ≡ used_core c a room → (reason : Refusal) → reason ≡ NoMemory → HasBegun c new a (Err reason)
       not_begun new is_used reason why = subst (λ (k : Core). HasBegun c k a (Err reason)) (sym is_used)
           (record { begun = (inr (inr (live, none, u, found, inr (why, left))), used_state); came = uses c.caches a.rank.0 leaf stays (refl, refl); sound = used_sound })
 
@@ -118,7 +125,7 @@ module _ (c view : Core) (is : view ≡ c) (sound : IsSoundCore c) (a : Dirfrag)
             subst (λ (j : Job). IsOf j u object) (sym job_is)
             (record { valid = subst (λ (j : Job). IsSnap j.snapshot) job_is valid; base = refl; generation = refl; keeps = λ name. elim (map.get u.dirty name) as (λ m. IsStillDirty m m) [ None ↦ tt | Some mark ↦ λ same. refl ]; counted = refl })
 
-        pub begun_is : (new : Core) → new ≡ begun → HasBegun c new a (Ok (Some job))
+        begun_is : (new : Core) → new ≡ begun → HasBegun c new a (Ok (Some job))
         begun_is new is_begun = subst (λ (k : Core). HasBegun c k a (Ok (Some job))) (sym is_begun) (record {
           begun = (live, none, subst (λ (o : Option Unsaved). BeginsUnsaved s (state_of begun) leaf o (Some job)) (sym found) (job_is, left, begun_state));
           came = uses c.caches a.rank.0 leaf stays (refl, refl);
@@ -130,3 +137,19 @@ module _ (c view : Core) (is : view ≡ c) (sound : IsSoundCore c) (a : Dirfrag)
             none = used_sound.none;
           };
         })
+
+      -- whichever it was
+      pub begun_or_not : (new : Core) (result : Result Job Refusal) → IfOk result (λ job. HasCached (here c.caches a.rank.0 leaf) (IsJobOf s.next_job leaf job)) → IfOk result (λ job. new ≡ with_job_in c a job room)
+          → IfOk result (λ job. IsSnap job.snapshot) → IfErr result (λ reason. reason ≡ NoMemory) → OnErr result (new ≡ used_core c a room) → HasBegunUnsaved c new a result
+      begun_or_not new (Ok job) taken stands valid err left =
+          let its = begun_is job valid taken new stands in
+          record { begun = its.begun; refused = tt; came = its.came; sound = its.sound }
+      begun_or_not new (Err reason) taken stands valid err left =
+          let its = not_begun new left reason err in
+          record { begun = tt; refused = its.begun; came = its.came; sound = its.sound }
+
+    -- no number is left
+    pub begins_not : (reason : Refusal) → (reason ≡ NoInodes) × IsAtEnd view.next_job base → HasBegunUnsaved c c a (Err reason)
+    begins_not reason why =
+        let its = lacks_number reason why in
+        record { begun = tt; refused = its.begun; came = its.came; sound = its.sound }

@@ -1,5 +1,5 @@
 -- Commits of whole fragments, one after the other.
-use Rattle.mdcache.proofs.Common.{Base, Bool, CommitsWhole, EndsJobOf, Err, HasSpelled, IsAsItWas, IsAtHand, IsEnded, IsLive, IsSound, IsSavedNow, Job, Jobs, LacksNumbers, Leaf, List, MayNotCommit, None, Ok, Refusal, Result, Some, State, Unsaved, UnsavedLeaves, ap, arith, cond, false, get_beside, inl, inr, len-empty, names_at, names_then, next_version, object_of, refl, same_Some, shown_at, shown_over, subst, sym, text_of, true, ℕ, ⊎_elim, ◌+◌, ◌<◌, ◌∙◌, ◌≡◌, ◌⊎◌}
+use Rattle.mdcache.proofs.Common.{Base, CommitsWhole, EndsJobOf, Err, HasSpelled, IsAsItWas, IsAtHand, IsEnded, IsLive, IsSound, IsSavedNow, Job, Jobs, LacksNumbers, Leaf, List, MayNotCommit, None, Ok, Refusal, Result, Some, State, Unsaved, ap, arith, get_beside, inl, inr, names_at, names_then, next_version, object_of, refl, same_Some, shown_at, shown_over, subst, sym, text_of, ℕ, ⊎_elim, ◌∙◌, ◌≡◌, ◌≤◌, ◌⊎◌}
 use Rattle.std.specs.FinMap as map
 use Rattle.mds_types.proofs.LeafLaws.{get_left, get_removed, same_or_apart}
 use Rattle.objstore.specs.Objects.{written}
@@ -99,7 +99,8 @@ lacked_before n old now before after reason whole sound number (inr (no_number, 
     ⊎_elim (λ same. inr (no_number, inr (leaf, u, sym same.0 ∙ is, above))) (λ w. let clash : None ≡ Some u = sym w.clean ∙ is in absurd cc)
     (whole.each leaf (subst (λ (s : State). IsLive s.homes s.covers leaf) whole.left (sound.unsaved leaf u is).live))
 
--- each turn leaves less to do
-pub turn_ends : (some : Bool) (old new : UnsavedLeaves) → (some ≡ true → map.len new < map.len old) → (some ≡ false → new ≡ map.empty) → map.len new + cond some 1 0 < map.len old + 1
-turn_ends true old new fewer clean = let less = fewer refl in omega (arith, less)
-turn_ends false old new fewer clean = let none : map.len new ≡ 0 = ap (λ (m : UnsavedLeaves). map.len m) (clean refl) ∙ len-empty leaf_cmp Unsaved in omega (arith, none)
+-- what lacks for some lacks for more
+pub lacked_for_more : (few many : ℕ) (s : State) (before after : ℕ) (reason : Refusal) → few ≤ many → MayNotCommit few s before after reason → MayNotCommit many s before after reason
+lacked_for_more few many s before after reason le (inl may) = inl may
+lacked_for_more few many s before after reason le (inr (no_number, inl lacks)) = inr (no_number, inl (omega (arith, le, lacks)))
+lacked_for_more few many s before after reason le (inr (no_number, inr above)) = inr (no_number, inr above)

@@ -39,7 +39,6 @@ pub use Rattle.dentry_cache.proofs.SplitShows.{below_or_it, fresh_tied}
 pub use Rattle.dentry_cache.proofs.StepLaws.{by_edits, by_rewrites, cap_roomy, get_given_up, get_with_frag, has_used, held_given_up, here_beside, here_put, here_with_frag, placed_given_up, placed_used, ranks_roomy}
 pub use Rattle.dentry_cache.proofs.TieLaws.{changed_are_tied, committed_are_tied, fetched_are_tied, tied_show}
 pub use Rattle.dentry_cache.proofs.UncleanLaws.{any_tied, clean_there, get_unclean, last_passes, unclean_alike, unclean_given_up, unclean_gone, unclean_with}
-pub use Rattle.dentry_cache.proofs.UncleanPlaces.{few_taken}
 pub use Rattle.dentry_cache.proofs.UsedLaws.{loaded_clean}
 pub use Rattle.dentry_cache.proofs.WholeLaws.{none_given_up, none_rewrites, none_with_frag, none_with_mark, readies_whole, refused_whole, whole_given_up, whole_rewritten, whole_roomy, whole_used, whole_with_frag}
 pub use Rattle.dentry_cache.specs.Cache.{HasCached, HasRoom, IsThere, Leaf, Unsaved, leaf_is, shows_in, unsaved_in, unsaved_of, with_unsaved}
@@ -83,11 +82,11 @@ pub use Rattle.inode_table.specs.Order.{trees_after}
 pub use Rattle.inode_table.specs.TreeChanges.{KeepLeaves, MayAdd, MayRemove, MaySet}
 pub use Rattle.inode_table.specs.TreeTable.{IsCounted, IsTabled, counts_moved, home_at, with_count, with_home, with_dir_pin, without_cover, without_home, without_row}
 pub use Rattle.inode_table.specs.declared.dirs.Home.{Home}
-pub use Rattle.mdcache.specs.Batches.{AreOfOtherLeaves, CommitsWhole, IsAsItWas, IsBegunAt, IsReadied, IsReadyWrite, IsUncleanAt, IsSavedNow, MayNotBeginAll, MayNotBeginOne, MayNotCommit, NotAmong, leaves_of_places, leaves_of_jobs, leaves_of_writes, ready_of}
+pub use Rattle.mdcache.specs.Batches.{AreOfOtherLeaves, CommitsWhole, IsAsItWas, IsBegunAt, IsReadied, IsReadyWrite, IsUncleanAt, IsSavedNow, LeavesOthers, MayNotBeginAll, MayNotBeginOne, MayNotCommit, NotAmong, leaves_of_places, leaves_of_jobs, leaves_of_writes, ready_of}
 pub use Rattle.mdcache.specs.CacheReads.{IsNewestOf, LacksPlacesIn}
 pub use Rattle.mdcache.specs.Changes.{Alters, IsAsItStands, IsNamed, Makes, PutsThen, TakesThen, dirtied, first_leaf, housed, just_made, leaves_in, noted_change, object_texts_of, rows_but, with_directory, with_home_at, with_name, with_new, with_objects, without_directory, without_gone_dir, without_leaves}
 pub use Rattle.mdcache.specs.Changing.{ChangesTree, IsChangedBy}
-pub use Rattle.mdcache.specs.Commits.{Begins, BeginsUnsaved, Drops, EndsJobOf, HasSpelled, IsAtEnd, IsDropped, IsEnded, MayNotBeginJob, committed, job_for, names_then, stored_with, with_job}
+pub use Rattle.mdcache.specs.Commits.{Begins, BeginsUnsaved, Drops, EndsJobOf, HasSpelled, IsAtEnd, IsDropped, IsEnded, MayNotBeginJob, committed, job_for, names_then, stored_with, told_of, with_job}
 pub use Rattle.mdcache.specs.Core.{AllCachedIn, Core, IsCachedIn, IsJobOf, IsNoLess, IsSoundCore, LacksPlacesAt, MayFetch, ReadsCore, Rooms, made_frag, named, pinned, shown_in, shows, state_of, used_core, with_entry_counted, with_job_in, without_dir, without_entry, without_frags}
 pub use Rattle.mdcache.specs.Flushed.{AreExact, ArePurged, BegunAreAtHand, BegunLeaveAtHand, EndedAreClean, FlushedIsCold, HasFragment, IsAtHand, IsFlushed, KeepsTree, OthersStayAtHand, PurgedAreExact, PurgedAreFlushed, StepsKeepTree}
 pub use Rattle.mdcache.specs.Frags.{KeepsState}
@@ -166,6 +165,7 @@ pub use Rattle.std.proofs.lemmas.Bool.Decides.{nat_tests}
 pub use Rattle.std.proofs.lemmas.Fn.{always_returns_same}
 pub use Rattle.std.proofs.lemmas.List.{drop_more, length-set, length-take, map-append, map_push, nil_from_length, take-append-drop, take_all}
 pub use Rattle.std.proofs.lemmas.List.Edits.{length-insert}
+pub use Rattle.std.proofs.lemmas.List.Folds.{list_any-append}
 pub use Rattle.std.proofs.lemmas.List.Elements.{All-contains, All-contains_itself, All-filter, All-from_recursion, Contains-append_left, Contains-get_or, Contains-push, Contains-push_cases, filter-append, filter_passes, recursion_from_All}
 pub use Rattle.std.proofs.lemmas.Map.Keys.{IsDistinct-cons, IsDistinct-head, IsDistinct-tail}
 pub use Rattle.std.proofs.lemmas.Map.Lookups.{exact_bytes}

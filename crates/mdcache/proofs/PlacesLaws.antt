@@ -1,8 +1,9 @@
--- The leaves that aren't clean, as they are listed: each is so at its rank, no two are one, and where none is listed all is clean.
-use Rattle.mdcache.proofs.Common.{AllByRecursion, AreOfOtherLeaves, AreCaches, At, CacheMap, Dirfrag, IsFree, IsUncleanAt, Leaf, List, None, NotAmong, Option, Some, [], ap, arith, at_rank, cond, cond_both, eq-eqb, false, get-empty, get_or, get_unclean, here, is_some, leaf-exact, leaf_is, leaf_of, leaves_of_places, length, length-append, length-take, list_any, map-append, nil_from_length, or_cases, refl, rules, same_map, subst, suc, sym, take, take-map, true, unclean, unclean_among, unclean_from, unclean_places, unsaved_at, unsaved_in, zero, ℕ, ⊎_elim, ◌++◌, ◌+◌, ◌<◌, ◌∙◌, ◌∷◌, ◌≡◌, ◌≤◌}
+-- The leaves that aren't clean, as they are listed: each is so at its rank, no two are one, and none is left out.
+use Rattle.mdcache.proofs.Common.{AllByRecursion, AreOfOtherLeaves, AreCaches, At, Bool, CacheMap, Dirfrag, IsFree, IsUncleanAt, Leaf, List, None, NotAmong, Option, Some, Unsaved, UnsavedLeaves, [], ap, arith, at_rank, cond, cond_both, drop, eq-eqb, false, get-empty, get_or, get_unclean, here, is_some, leaf-exact, leaf_cmp, leaf_is, leaf_of, leaves_of_places, len-empty, len-remove, length, list_any, list_any-append, map-append, or_cases, or_left, or_right, refl, rules, same_map, subst, suc, sym, take, true, unclean, unclean_among, unclean_from, unclean_places, unsaved_at, unsaved_in, zero, ℕ, ⊎_elim, ◌++◌, ◌+◌, ◌-◌, ◌<◌, ◌||◌, ◌∙◌, ◌∷◌, ◌≡◌, ◌≤◌}
+use Rattle.std.proofs.lemmas.List.{length-map}
 use Rattle.std.specs.List.{IsDistinct}
 use Rattle.std.specs.FinMap as map
-use Rattle.mds_types.proofs.LeafLaws.{leaf-total, one_leaf, same_leaf}
+use Rattle.mds_types.proofs.LeafLaws.{get_left, get_removed, leaf-total, one_leaf, same_leaf, same_or_apart}
 
 pub all_append : {A : Type 0} (P : A → Type 0) (xs ys : List A) → AllByRecursion P xs → AllByRecursion P ys → AllByRecursion P (xs ++ ys)
 all_append P [] ys all more = more
@@ -12,15 +13,20 @@ pub all_weaker : {A : Type 0} (P Q : A → Type 0) → ((x : A) → P x → Q x)
 all_weaker P Q so [] all = tt
 all_weaker P Q so (x ∷ xs) (one, all) = (so x one, all_weaker P Q so xs all)
 
-all_take : {A : Type 0} (P : A → Type 0) (n : ℕ) (xs : List A) → AllByRecursion P xs → AllByRecursion P (take n xs)
+pub all_take : {A : Type 0} (P : A → Type 0) (n : ℕ) (xs : List A) → AllByRecursion P xs → AllByRecursion P (take n xs)
 all_take P zero xs all = tt
 all_take P (suc n) [] all = tt
 all_take P (suc n) (x ∷ xs) (one, all) = (one, all_take P n xs all)
 
-apart_take : (n : ℕ) (xs : List Leaf) → AreOfOtherLeaves xs → AreOfOtherLeaves (take n xs)
+pub apart_take : (n : ℕ) (xs : List Leaf) → AreOfOtherLeaves xs → AreOfOtherLeaves (take n xs)
 apart_take zero xs apart = tt
 apart_take (suc n) [] apart = tt
 apart_take (suc n) (x ∷ xs) (others, apart) = (all_take (λ (q : Leaf). q ≡ x → ⊥) n xs others, apart_take n xs apart)
+
+pub all_drop : {A : Type 0} (P : A → Type 0) (n : ℕ) (xs : List A) → AllByRecursion P xs → AllByRecursion P (drop n xs)
+all_drop P zero xs all = all
+all_drop P (suc n) [] all = tt
+all_drop P (suc n) (x ∷ xs) (one, all) = all_drop P n xs all
 
 apart_append : (xs ys : List Leaf) → AreOfOtherLeaves xs → AreOfOtherLeaves ys → AllByRecursion (λ (x : Leaf). NotAmong x ys) xs → AreOfOtherLeaves (xs ++ ys)
 apart_append [] ys apart more none = more
@@ -32,6 +38,30 @@ place_at r leaf = record { dir = leaf.0; frag = leaf.1; rank = record { 0 = r } 
 -- a fragment with something unsaved is at its rank, and at no other
 free_there : (r : ℕ) (o : Option At) → is_some (unsaved_in (at_rank r o)) ≡ true → IsFree r o × (is_some (unsaved_at o) ≡ true)
 free_there r o dirty = search rules
+
+-- a leaf is in one of two lists where it is in both together
+any_of_both : (q : Leaf) (these more : List Dirfrag) → list_any (leaf_is q) (leaves_of_places (these ++ more)) ≡ (list_any (leaf_is q) (leaves_of_places these) || list_any (leaf_is q) (leaves_of_places more))
+any_of_both q these more = ap (list_any (leaf_is q)) (map-append (λ (a : Dirfrag). leaf_of a) these more) ∙ list_any-append (leaf_is q) (leaves_of_places these) (leaves_of_places more)
+
+-- a map whose keys are all in a list has no more of them than the list is long
+few_keys : (leaves : List Leaf) (m : UnsavedLeaves) → ((q : Leaf) → is_some (map.get m q) ≡ true → list_any (leaf_is q) leaves ≡ true) → map.len m ≤ length leaves
+few_keys [] m all =
+    let none : m ≡ map.empty = same_map leaf-total leaf-exact m map.empty (λ q. nothing (map.get m q) (all q) ∙ sym (get-empty leaf_cmp q)) in
+    let len : map.len m ≡ 0 = ap (λ (w : UnsavedLeaves). map.len w) none ∙ len-empty leaf_cmp Unsaved in
+    omega (arith, len)
+  where
+    nothing : (o : Option Unsaved) → (is_some o ≡ true → false ≡ true) → o ≡ None
+    nothing None so = refl
+    nothing (Some u) so = let clash : false ≡ true = so refl in absurd cc
+few_keys (x ∷ leaves) m all =
+    let few = few_keys leaves (map.remove m x) (λ q there. ⊎_elim (λ same. let clash : false ≡ true = sym (ap is_some (ap (map.get (map.remove m x)) same ∙ get_removed m x)) ∙ there in absurd cc)
+    (λ apart. ⊎_elim (λ is. absurd (apart (one_leaf q x is))) (λ more. more) (or_cases (leaf_is q x) (list_any (leaf_is q) leaves) (all q (ap is_some (sym (get_left m x q apart)) ∙ there)))) (same_or_apart q x)) in
+    let less = len-remove leaf-total m x in
+    short (is_some (map.get m x)) (map.len m) (map.len (map.remove m x)) (length leaves) less few
+  where
+    short : (b : Bool) (n less k : ℕ) → less ≡ cond b (n - 1) n → less ≤ k → n ≤ suc k
+    short true n less k is few = omega (arith, is, few)
+    short false n less k is few = omega (arith, is, few)
 
 module _ (c : CacheMap) where
   among_all : (r : ℕ) → r < length c.used → (leaves : List Leaf) → AllByRecursion (λ (a : Dirfrag). IsUncleanAt c a × (a.rank.0 ≡ r)) (unclean_among c r leaves)
@@ -48,8 +78,8 @@ module _ (c : CacheMap) where
       (all_weaker (λ (a : Dirfrag). IsUncleanAt c a × (a.rank.0 ≡ r)) (λ (a : Dirfrag). IsUncleanAt c a × (r ≤ a.rank.0)) (λ a is. (is.0, omega (arith, is.1))) (unclean_among c r leaves) (among_all r (omega (arith, within)) leaves))
       (all_weaker (λ (a : Dirfrag). IsUncleanAt c a × (r + 1 ≤ a.rank.0)) (λ (a : Dirfrag). IsUncleanAt c a × (r ≤ a.rank.0)) (λ a is. (is.0, omega (arith, is.1))) (unclean_from c (r + 1) used) (from_all (r + 1) used (omega (arith, within))))
 
-  pub listed_unclean : (n : ℕ) → AllByRecursion (IsUncleanAt c) (take n (unclean_places c))
-  listed_unclean n = all_take (IsUncleanAt c) n (unclean_places c) (all_weaker (λ (a : Dirfrag). IsUncleanAt c a × (0 ≤ a.rank.0)) (IsUncleanAt c) (λ a is. is.0) (unclean_places c) (from_all 0 c.used (omega arith)))
+  pub listed_unclean : AllByRecursion (IsUncleanAt c) (unclean_places c)
+  listed_unclean = all_weaker (λ (a : Dirfrag). IsUncleanAt c a × (0 ≤ a.rank.0)) (IsUncleanAt c) (λ a is. is.0) (unclean_places c) (from_all 0 c.used (omega arith))
 
   -- ---- no two are one
 
@@ -89,38 +119,36 @@ module _ (c : CacheMap) where
   each_order [] distinct = tt
   each_order (leaves ∷ used) distinct = (distinct 0, each_order used (λ r. distinct (suc r)))
 
-  pub listed_apart : AreCaches c → (n : ℕ) → AreOfOtherLeaves (leaves_of_places (take n (unclean_places c)))
-  listed_apart valid n = subst AreOfOtherLeaves (take-map (λ (a : Dirfrag). leaf_of a) n (unclean_places c)) (apart_take n (leaves_of_places (unclean_places c)) (from_apart 0 c.used (omega arith) (each_order c.used valid.distinct)))
+  pub listed_apart : AreCaches c → AreOfOtherLeaves (leaves_of_places (unclean_places c))
+  listed_apart valid = from_apart 0 c.used (omega arith) (each_order c.used valid.distinct)
 
-  -- ---- where none is listed
+  -- ---- none is left out
 
-  among_some : (r : ℕ) (q : Leaf) (leaves : List Leaf) → list_any (leaf_is q) leaves ≡ true → is_some (unsaved_in (here c r q)) ≡ true → unclean_among c r leaves ≡ [] → ⊥
-  among_some r q [] has dirty none = let clash : false ≡ true = has in cc
-  among_some r q (x ∷ leaves) has dirty none = cond_both (is_some (unsaved_in (here c r x))) (place_at r x ∷ unclean_among c r leaves) (unclean_among c r leaves) (λ places. places ≡ [] → ⊥)
-      (λ unclean none. let clash : (place_at r x ∷ unclean_among c r leaves) ≡ [] = none in cc)
-      (λ clean none. ⊎_elim (λ same. let clash : false ≡ true = sym clean ∙ ap (λ y. is_some (unsaved_in (here c r y))) (sym (one_leaf q x same)) ∙ dirty in cc) (λ more. among_some r q leaves more dirty none)
-      (or_cases (leaf_is q x) (list_any (leaf_is q) leaves) has)) none
+  among_has : (r : ℕ) (q : Leaf) (leaves : List Leaf) → list_any (leaf_is q) leaves ≡ true → is_some (unsaved_in (here c r q)) ≡ true → list_any (leaf_is q) (leaves_of_places (unclean_among c r leaves)) ≡ true
+  among_has r q [] has dirty = has
+  among_has r q (x ∷ leaves) has dirty = cond_both (is_some (unsaved_in (here c r x))) (place_at r x ∷ unclean_among c r leaves) (unclean_among c r leaves) (λ places. list_any (leaf_is q) (leaves_of_places places) ≡ true)
+      (λ unclean. ⊎_elim (λ same. or_left (leaf_is q x) (list_any (leaf_is q) (leaves_of_places (unclean_among c r leaves))) same) (λ more. or_right (leaf_is q x) (list_any (leaf_is q) (leaves_of_places (unclean_among c r leaves))) (among_has r q leaves more dirty))
+      (or_cases (leaf_is q x) (list_any (leaf_is q) leaves) has))
+      (λ clean. ⊎_elim (λ same. let clash : false ≡ true = sym clean ∙ ap (λ y. is_some (unsaved_in (here c r y))) (sym (one_leaf q x same)) ∙ dirty in absurd cc) (λ more. among_has r q leaves more dirty)
+      (or_cases (leaf_is q x) (list_any (leaf_is q) leaves) has))
 
-  first_none : {A : Type 0} (xs ys : List A) → xs ++ ys ≡ [] → (xs ≡ []) × (ys ≡ [])
-  first_none xs ys none = let long = length-append xs ys in let few = ap length none in (nil_from_length xs (omega (arith, long, few)), nil_from_length ys (omega (arith, long, few)))
+  from_has : (r : ℕ) (used : List (List Leaf)) (k : ℕ) (q : Leaf) → list_any (leaf_is q) (get_or used k []) ≡ true → is_some (unsaved_in (here c (r + k) q)) ≡ true → list_any (leaf_is q) (leaves_of_places (unclean_from c r used)) ≡ true
+  from_has r [] k q has dirty = let clash : false ≡ true = has in absurd cc
+  from_has r (leaves ∷ used) zero q has dirty =
+      any_of_both q (unclean_among c r leaves) (unclean_from c (r + 1) used)
+      ∙ or_left _ _ (among_has r q leaves has (subst (λ n. is_some (unsaved_in (here c n q)) ≡ true) (let at : r + 0 ≡ r = omega arith in at) dirty))
+  from_has r (leaves ∷ used) (suc k) q has dirty =
+      any_of_both q (unclean_among c r leaves) (unclean_from c (r + 1) used)
+      ∙ or_right _ _ (from_has (r + 1) used k q has (subst (λ n. is_some (unsaved_in (here c n q)) ≡ true) (let at : r + suc k ≡ (r + 1) + k = omega arith in at) dirty))
 
-  from_some : (r : ℕ) (used : List (List Leaf)) (k : ℕ) (q : Leaf) → list_any (leaf_is q) (get_or used k []) ≡ true → is_some (unsaved_in (here c (r + k) q)) ≡ true → unclean_from c r used ≡ [] → ⊥
-  from_some r [] k q has dirty none = let clash : false ≡ true = has in cc
-  from_some r (leaves ∷ used) zero q has dirty none = among_some r q leaves has (subst (λ n. is_some (unsaved_in (here c n q)) ≡ true) (let at : r + 0 ≡ r = omega arith in at) dirty) (first_none (unclean_among c r leaves) (unclean_from c (r + 1) used) none).0
-  from_some r (leaves ∷ used) (suc k) q has dirty none =
-      from_some (r + 1) used k q has (subst (λ n. is_some (unsaved_in (here c n q)) ≡ true) (let at : r + suc k ≡ (r + 1) + k = omega arith in at) dirty) (first_none (unclean_among c r leaves) (unclean_from c (r + 1) used) none).1
-
-  none_listed : AreCaches c → unclean_places c ≡ [] → (q : Leaf) → (o : Option At) → map.get c.held q ≡ o → unsaved_at o ≡ None
-  none_listed valid none q None is = refl
-  none_listed valid none q (Some a) is =
+  is_listed : AreCaches c → (q : Leaf) → (o : Option At) → map.get c.held q ≡ o → is_some (unsaved_at o) ≡ true → list_any (leaf_is q) (leaves_of_places (unclean_places c)) ≡ true
+  is_listed valid q None is dirty = let clash : false ≡ true = dirty in absurd cc
+  is_listed valid q (Some a) is dirty =
       let at : here c a.rank q ≡ Some a.frag = ap (at_rank a.rank) is ∙ ap (λ b. cond b (Some a.frag) None) (eq-eqb a.rank a.rank refl) in
-      elim (unsaved_in (Some a.frag)) as (λ u. unsaved_in (Some a.frag) ≡ u → u ≡ None) [
-        | None ↦ λ clean. refl
-        | Some u ↦ λ dirty. absurd (from_some 0 c.used a.rank q (valid.placed a.rank q (ap is_some at))
-            (subst (λ n. is_some (unsaved_in (here c n q)) ≡ true) (let same : a.rank ≡ 0 + a.rank = omega arith in same) (ap (λ o. is_some (unsaved_in o)) at ∙ ap is_some dirty)) none)
-      ] refl
+      from_has 0 c.used a.rank q (valid.placed a.rank q (ap is_some at)) (subst (λ n. is_some (unsaved_in (here c n q)) ≡ true) (let same : a.rank ≡ 0 + a.rank = omega arith in same) (ap (λ o. is_some (unsaved_in o)) at ∙ dirty))
 
-  pub nothing_listed : AreCaches c → (n : ℕ) → take (suc n) (unclean_places c) ≡ [] → unclean c ≡ map.empty
-  nothing_listed valid n none =
-      let all : unclean_places c ≡ [] = nil_from_length (unclean_places c) (omega (arith, length-take (suc n) (unclean_places c), ap length none)) in
-      same_map leaf-total leaf-exact (unclean c) map.empty (λ q. get_unclean c q ∙ none_listed valid all q (map.get c.held q) refl ∙ sym (get-empty _ q))
+  pub listed_all : AreCaches c → map.len (unclean c) ≤ length (unclean_places c)
+  listed_all valid =
+      let few = few_keys (leaves_of_places (unclean_places c)) (unclean c) (λ q there. is_listed valid q (map.get c.held q) refl (ap is_some (sym (get_unclean c q)) ∙ there)) in
+      let each = length-map (unclean_places c) (λ (a : Dirfrag). leaf_of a) in
+      omega (arith, few, each)

@@ -13,7 +13,7 @@ use Rattle.mdcache.specs.Core.{Core, state_of}
 use Rattle.mdcache.specs.Flushed.{IsAtHand}
 use Rattle.mdcache.specs.Ranks.{MayHold}
 use Rattle.mdcache.specs.Ready.{LacksNumbers}
-use Rattle.mdcache.specs.State.{IsLive, State, text_of}
+use Rattle.mdcache.specs.State.{IsLive, State, UnsavedLeaves, text_of}
 use Rattle.mdcache.specs.declared.batches.Begun.{Begun}
 use Rattle.mdcache.specs.declared.batches.Ready.{Ready}
 use Rattle.cached_frag.specs.Commit.{carried}
@@ -34,6 +34,10 @@ NotAmong leaf leaves = AllByRecursion (λ (q : Leaf). q ≡ leaf → ⊥) leaves
 abbrev pub AreOfOtherLeaves : List Leaf → Type 0
 AreOfOtherLeaves [] = Unit {0}
 AreOfOtherLeaves (leaf ∷ leaves) = NotAmong leaf leaves × AreOfOtherLeaves leaves
+
+-- what isn't clean is as it was, but of these leaves
+pub record LeavesOthers (leaves : List Leaf) (old new : UnsavedLeaves) : Type 0 where
+  pub same : (q : Leaf) → NotAmong q leaves → map.get new q ≡ map.get old q
 
 -- where fragments lie, and whose jobs were begun
 abbrev pub leaves_of_places : List Dirfrag → List Leaf

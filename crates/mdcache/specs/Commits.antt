@@ -1,6 +1,7 @@
 -- What the calls about commits do: one begins, one ends, one is dropped.
 use Rattle.std.specs.Prelude.{◌≡◌, ◌⊎◌, ℕ, ◌+◌, ◌-◌, ◌^◌, true, cond, ◌==◌, is_some, Option, Some, None, Result, Ok, Err}
 use Rattle.std.specs.FinMap as map
+use Rattle.std.specs.Option.{option_map}
 use Rattle.mds_types.specs.declared.refusals.Refusal.{Refusal}
 use Rattle.mds_types.specs.declared.refusals.Refusal.TheVariants.{NoInodes, NoMemory, NoSuchFrag, JobOutstanding, StaleJob}
 use Rattle.objstore.specs.Omap.{Omap}
@@ -12,9 +13,9 @@ use Rattle.cached_frag.specs.declared.jobs.Job.{Job}
 use Rattle.cached_frag.specs.Commit.{write_of}
 use Rattle.cached_frag.specs.Marks.{Marks}
 use Rattle.cached_frag.specs.Snap.{IsBelowEnd, Snap, counts_of, next_version}
-use Rattle.cached_frag.specs.Cached.{shown_over, unsettled}
+use Rattle.cached_frag.specs.Cached.{Cached, shown_over, unsettled}
 use Rattle.dentry_cache.specs.Loading.{object_of}
-use Rattle.dentry_cache.specs.Cache.{Leaf, Unsaved, with_unsaved}
+use Rattle.dentry_cache.specs.Cache.{Leaf, Unsaved, unsaved_in, with_unsaved}
 use Rattle.dentry_cache.specs.Ties.{names_at}
 use Rattle.mdcache.specs.StandingJobs.{NoneHasNumber}
 use Rattle.mdcache.specs.Shown.{shown_at, shown_tree}
@@ -40,6 +41,10 @@ job_for s leaf u = record {
 -- the leaf of a job
 abbrev pub leaf_of_job : Job → Leaf
 leaf_of_job job = (job.ino, job.frag)
+
+-- base and generation of a fragment that isn't clean; none of one that is
+abbrev pub told_of : Option Cached → Option (Base × ℕ)
+told_of o = option_map (λ (u : Unsaved). (u.base, u.generation)) (unsaved_in o)
 
 -- the job stands, and its number is taken
 abbrev pub with_job : State → Job → State

@@ -1,5 +1,5 @@
 //! Commits of several fragments at once, as a flush makes them.
-ghost use Rattle.std.specs.Prelude.{map as list_map, ◌≤◌, ◌<◌, true, false, [], ◌≡◌, ◌+◌, length, None, Some, Ok, OnOk, OnErr, IfOk, IfErr};
+ghost use Rattle.std.specs.Prelude.{map as list_map, ◌≤◌, ◌≡◌, ◌+◌, length, None, Some, Ok, OnOk, OnErr, IfOk, IfErr};
 ghost use Rattle.std.specs.List.{AllByRecursion};
 ghost use Rattle.std.specs.FinMap as map;
 ghost use Rattle.std.specs.Result.{result_err};
@@ -7,13 +7,14 @@ ghost use Rattle.objstore.specs.Objects.{MayRefuse, faults_told};
 ghost use Rattle.mds_types.specs.Leaf.{leaf_of};
 ghost use Rattle.mds_types.specs.declared.refusals.Refusal.TheVariants.{NoMemory};
 ghost use Rattle.dentry_cache.specs.CacheMap.{unclean};
-ghost use Rattle.mdcache.specs.Batches.{AreOfOtherLeaves, CommitsWhole, IsBegunAt, IsReadied, IsReadyWrite, IsUncleanAt, MayNotBeginAll};
+ghost use Rattle.mdcache.specs.Batches.{AreOfOtherLeaves, CommitsWhole, IsBegunAt, IsReadied, IsReadyWrite, IsUncleanAt, LeavesOthers, MayNotBeginAll};
 ghost use Rattle.mdcache.specs.Batches.{MayNotBeginOne, MayNotCommit, leaves_of_places, leaves_of_jobs, leaves_of_writes, ready_of};
 ghost use Rattle.mdcache.specs.Commits.{Begins, IsEnded, leaf_of_job};
 ghost use Rattle.mdcache.specs.Core.{IsSoundCore, state_of};
 ghost use Rattle.mdcache.specs.Flushed.{IsAtHand, KeepsTree};
 ghost use Rattle.mdcache.specs.Ranks.{MayHold};
 
+use crate::beginning::unsaved;
 use crate::mdcache::MdCache;
 use crate::standing_jobs::StandingJobs;
 use cached_frag::{Encoded, Job};
@@ -56,8 +57,9 @@ impl Begun {
 
 impl<S: Store + Drop> MdCache<S> {
     /// Commits each fragment that isn't clean, while no job stands. No more than 256 of them are begun at once, and no
-    /// job stands afterwards; the next one gets the number that it would have got before. Takes memory for the
-    /// snapshots and writes of so many.
+    /// job stands afterwards; the next one gets the number that it would have got before. The caches are walked once,
+    /// for a list of the leaves. Takes memory for that list, 24 bytes for each leaf, and for the snapshots and writes
+    /// of 256.
     ///
     /// Refused `NoInodes` where a fragment's version is used up, or fewer than 256 numbers are left for jobs; otherwise
     /// as the store refuses, and `NoMemory`. What was committed until then is so, and all else is as it was.
@@ -74,54 +76,60 @@ impl<S: Store + Drop> MdCache<S> {
         ensures counted { self.new.faults ≡ self.old.faults + faults_told (result_err result) }
         ensures sound { IsSoundCore self.new }
     {
-        commit_batches(self, rt, alloc)
+        let leaves = match self.unclean_leaves(alloc) {
+            Ok(leaves) => leaves,
+            Err(refusal) => return Err(refusal),
+        };
+        let done = self.commit_listed(rt, alloc, leaves.as_slice());
+        drop(leaves);
+        done
     }
 
-    // Commits some leaves that aren't clean, no more than 256, and tells whether there were any. Takes memory for them
-    // at once.
-    fn commit_some(&mut self, rt: &(impl Threads + Sync), alloc: Global) -> Result<bool, Refusal>
+    // The leaves that aren't clean, each once, at its rank. Takes memory for them.
+    fn unclean_leaves(&self, alloc: Global) -> Result<Vec<Dirfrag>, Refusal>
+        requires { length self.now.caches.used ≤ 256 }
+        ensures unclean { IfOk result (λ leaves. AllByRecursion (IsUncleanAt self.now.caches) leaves.items) }
+        ensures apart { IfOk result (λ leaves. AreOfOtherLeaves (leaves_of_places leaves.items)) }
+        ensures all { IfOk result (λ leaves. map.len (unclean self.now.caches) ≤ length leaves.items) }
+        ensures refused { IfErr result (λ reason. reason ≡ NoMemory) }
+    {
+        match self.caches.unclean_leaves(alloc) {
+            Ok(leaves) => Ok(leaves),
+            Err(_) => Err(Refusal::NoMemory),
+        }
+    }
+
+    // Commits each of these leaves, none of which is clean, no more than 256 at once, in their order. Takes memory for
+    // so many. Whatever it answers no job stands then, and the next one gets the number that it would have got before.
+    fn commit_listed(
+        &mut self,
+        rt: &(impl Threads + Sync),
+        alloc: Global,
+        leaves: &[Dirfrag],
+    ) -> Result<(), Refusal>
         requires sound { IsSoundCore self.old }
         requires none { self.old.jobs ≡ map.empty }
-        requires few { length self.old.caches.used ≤ 256 }
-        ensures fewer { IfOk result
-            (λ some. some ≡ true → map.len (unclean self.new.caches) < map.len (unclean self.old.caches)) }
-        ensures clean { IfOk result (λ some. some ≡ false → unclean self.new.caches ≡ map.empty) }
+        requires apart { AreOfOtherLeaves (leaves_of_places leaves.now) }
+        requires unclean { AllByRecursion (IsUncleanAt self.old.caches) leaves.now }
         ensures whole { CommitsWhole (state_of self.old) (state_of self.new) }
         ensures jobs { self.new.jobs ≡ map.empty }
         ensures number { self.new.next_job ≡ self.old.next_job }
+        ensures fewer { OnOk result
+            (map.len (unclean self.new.caches) + length leaves.now ≡ map.len (unclean self.old.caches)) }
         ensures tree { KeepsTree self.old self.new }
         ensures refused { IfErr result (MayNotCommit 256 (state_of self.old) self.old.faults self.new.faults) }
         ensures counted { self.new.faults ≡ self.old.faults + faults_told (result_err result) }
         ensures sound { IsSoundCore self.new }
     {
-        let leaves = match self.next_batch(alloc) {
-            Ok(leaves) => leaves,
-            Err(refusal) => return Err(refusal),
-        };
-        if leaves.is_empty() {
-            return Ok(false);
+        let mut rest = leaves;
+        while rest.len() > 0 {
+            let (batch, after) = rest.split_at(rest.len().min(BATCH));
+            if let Err(refusal) = self.commit_batch(rt, alloc, batch) {
+                return Err(refusal);
+            }
+            rest = after;
         }
-        let done = self.commit_batch(rt, alloc, leaves.as_slice());
-        drop(leaves);
-        match done {
-            Ok(()) => Ok(true),
-            Err(refusal) => Err(refusal),
-        }
-    }
-
-    // The next leaves to commit: some that aren't clean, where any is, and no more than 256. Takes memory for them.
-    fn next_batch(&self, alloc: Global) -> Result<Vec<Dirfrag>, Refusal>
-        requires { length self.now.caches.used ≤ 256 }
-        ensures unclean { IfOk result (λ leaves. AllByRecursion (IsUncleanAt self.now.caches) leaves.items) }
-        ensures apart { IfOk result (λ leaves. AreOfOtherLeaves (leaves_of_places leaves.items)) }
-        ensures few { IfOk result (λ leaves. length leaves.items ≤ 256) }
-        ensures none { IfOk result (λ leaves. leaves.items ≡ [] → unclean self.now.caches ≡ map.empty) }
-        ensures refused { IfErr result (λ reason. reason ≡ NoMemory) }
-    {
-        match self.caches.unclean_leaves(alloc, BATCH) {
-            Ok(leaves) => Ok(leaves),
-            Err(_) => Err(Refusal::NoMemory),
-        }
+        Ok(())
     }
 
     // Commits each of these leaves, none of which is clean. Takes memory for all of them at once. Whatever it answers
@@ -141,6 +149,8 @@ impl<S: Store + Drop> MdCache<S> {
         ensures number { self.new.next_job ≡ self.old.next_job }
         ensures fewer { OnOk result
             (map.len (unclean self.new.caches) + length leaves.now ≡ map.len (unclean self.old.caches)) }
+        ensures others { OnOk result
+            (LeavesOthers (leaves_of_places leaves.now) (unclean self.old.caches) (unclean self.new.caches)) }
         ensures tree { KeepsTree self.old self.new }
         ensures refused { IfErr result
             (MayNotCommit (length leaves.now) (state_of self.old) self.old.faults self.new.faults) }
@@ -187,6 +197,8 @@ impl<S: Store + Drop> MdCache<S> {
         ensures whole { CommitsWhole (state_of self.old) (state_of self.new) }
         ensures fewer { OnOk result
             (map.len (unclean self.new.caches) + length leaves.now ≡ map.len (unclean self.old.caches)) }
+        ensures others { OnOk result
+            (LeavesOthers (leaves_of_places leaves.now) (unclean self.old.caches) (unclean self.new.caches)) }
         ensures tree { KeepsTree self.old self.new }
         ensures refused { IfErr result
             (MayNotCommit (length leaves.now) (state_of self.old) self.old.faults self.new.faults) }
@@ -249,6 +261,8 @@ impl<S: Store + Drop> MdCache<S> {
         ensures whole { CommitsWhole (state_of self.old) (state_of self.new) }
         ensures fewer { OnOk result
             (map.len (unclean self.new.caches) + length ready.now ≡ map.len (unclean self.old.caches)) }
+        ensures others { OnOk result
+            (LeavesOthers (leaves_of_writes ready.now) (unclean self.old.caches) (unclean self.new.caches)) }
         ensures tree { KeepsTree self.old self.new }
         ensures refused { IfErr result (MayRefuse self.old.faults self.new.faults) }
         ensures counted { self.new.faults ≡ self.old.faults + faults_told (result_err result) }
@@ -275,11 +289,8 @@ impl<S: Store + Drop> MdCache<S> {
         ensures faults { self.new.faults ≡ self.old.faults }
         ensures sound { IsSoundCore self.new }
     {
-        match self.begin(at) {
-            Ok(Some(job)) => Ok(job),
-            Ok(None) => unreachable!(),
-            Err(refusal) => Err(refusal),
-        }
+        let (base, generation) = unsaved(&self.caches, at).unwrap();
+        self.begin_unsaved(at, base, generation)
     }
 
     // Ends a commit of a leaf whose fragment hasn't changed since it began: it is clean then. Takes memory before it
@@ -323,32 +334,4 @@ fn encode_each(
             { one.encode(alloc) },
         )
         .collect::<Result<Vec<Ready>, Refusal>>(rt, alloc)?
-}
-
-// Commits batch after batch, until all is clean.
-fn commit_batches<S: Store + Drop>(
-    tree: &mut MdCache<S>,
-    rt: &(impl Threads + Sync),
-    alloc: Global,
-) -> Result<(), Refusal>
-    requires sound { IsSoundCore tree.old }
-    requires none { tree.old.jobs ≡ map.empty }
-    requires few { length tree.old.caches.used ≤ 256 }
-    ensures clean { OnOk result (unclean tree.new.caches ≡ map.empty) }
-    ensures whole { CommitsWhole (state_of tree.old) (state_of tree.new) }
-    ensures jobs { tree.new.jobs ≡ map.empty }
-    ensures number { tree.new.next_job ≡ tree.old.next_job }
-    ensures tree { KeepsTree tree.old tree.new }
-    ensures refused { IfErr result (MayNotCommit 256 (state_of tree.old) tree.old.faults tree.new.faults) }
-    ensures counted { tree.new.faults ≡ tree.old.faults + faults_told (result_err result) }
-    ensures sound { IsSoundCore tree.new }
-{
-    let mut more = true;
-    while more {
-        more = match tree.commit_some(rt, alloc) {
-            Ok(some) => some,
-            Err(refusal) => return Err(refusal),
-        };
-    }
-    Ok(())
 }

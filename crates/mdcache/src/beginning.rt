@@ -1,16 +1,15 @@
 //! Commits begin: a snapshot of a fragment that isn't clean is given out as a job.
-ghost use Rattle.std.specs.Prelude.{◌≡◌, ◌+◌, ◌-◌, ◌<◌, ◌^◌, false, OnOk, OnErr, IfOk, IfErr, length};
-ghost use Rattle.std.specs.Option.{option_map};
+ghost use Rattle.std.specs.Prelude.{◌≡◌, ◌+◌, ◌-◌, ◌<◌, ◌^◌, false, Some, None, Ok, Err, OnOk, OnErr, IfOk, IfErr, length};
 ghost use Rattle.std.specs.FinMap as map;
 ghost use Rattle.mds_types.specs.declared.refusals.Refusal.TheVariants.{NoInodes, NoMemory};
 ghost use Rattle.mds_types.specs.Leaf.{leaf_of};
 ghost use Rattle.inode_table.specs.Dirs.{IsLive};
 ghost use Rattle.cached_frag.specs.Snap.{IsBelowEnd, IsSnap};
 ghost use Rattle.cached_frag.specs.Cached.{Cached, is_clean};
-ghost use Rattle.dentry_cache.specs.Cache.{HasCached, Unsaved, unsaved_in};
+ghost use Rattle.dentry_cache.specs.Cache.{HasCached};
 ghost use Rattle.dentry_cache.specs.CacheMap.{here, used_at};
 ghost use Rattle.dentry_cache.specs.Came.{Came, IsThat, NoneEnds};
-ghost use Rattle.mdcache.specs.Commits.{Begins, IsAtEnd};
+ghost use Rattle.mdcache.specs.Commits.{Begins, IsAtEnd, told_of};
 ghost use Rattle.mdcache.specs.Core.{IsJobOf, IsSoundCore, state_of, used_core, with_job_in};
 ghost use Rattle.mdcache.specs.Ranks.{MayHold};
 
@@ -43,13 +42,37 @@ impl<S: Store + Drop> MdCache<S> {
         let Some((base, generation)) = unsaved(&self.caches, at) else {
             return Ok(None);
         };
-        if let Err(refusal) = check_numbers(self.next.job, base) {
-            return Err(refusal);
-        }
-        match self.begin_at(at, generation) {
+        match self.begin_unsaved(at, base, generation) {
             Ok(job) => Ok(Some(job)),
             Err(refusal) => Err(refusal),
         }
+    }
+
+    // Begins a commit of a leaf that isn't clean and for which no job stands, of whose fragment base and generation
+    // were told. Takes memory for the snapshot, twice.
+    pub(crate) fn begin_unsaved(
+        &mut self,
+        at: &Dirfrag,
+        base: Base,
+        generation: u64,
+    ) -> Result<Job, Refusal>
+        requires sound { IsSoundCore self.old }
+        requires live { IsLive self.old.homes self.old.covers (leaf_of at.now) }
+        requires holds { MayHold self.old.caches at.now.rank (leaf_of at.now) }
+        requires free { map.get self.old.jobs (leaf_of at.now) ≡ None }
+        requires told { Some (base, generation) ≡ told_of (here self.old.caches at.now.rank.0 (leaf_of at.now)) }
+        ensures begun { IfOk result
+            (λ job. Begins (state_of self.old) (state_of self.new) (leaf_of at.now) (Ok (Some job))) }
+        ensures refused { IfErr result
+            (λ reason. Begins (state_of self.old) (state_of self.new) (leaf_of at.now) (Err reason)) }
+        ensures came { Came (IsThat at.now.rank.0 (leaf_of at.now)) NoneEnds self.old.caches self.new.caches }
+        ensures faults { self.new.faults ≡ self.old.faults }
+        ensures sound { IsSoundCore self.new }
+    {
+        if let Err(refusal) = check_numbers(self.next.job, base) {
+            return Err(refusal);
+        }
+        self.begin_at(at, generation)
     }
 
     // A job of the next number stands from now on for a fragment that isn't clean, and is given back. Takes memory for
@@ -67,9 +90,7 @@ impl<S: Store + Drop> MdCache<S> {
         ensures err { IfErr result (λ reason. reason ≡ NoMemory) }
         ensures left { OnErr result (self.new ≡ used_core self.old at.now self.new.room) }
     {
-        let Some(snapshot) = self.caches.begin_commit(*at)? else {
-            unreachable!()
-        };
+        let snapshot = self.caches.begin_commit(*at)?;
         let job = job_of(self.next.job, at, generation, snapshot);
         match stand(&mut self.jobs, job) {
             Ok(job) => {
@@ -99,10 +120,9 @@ fn job_of(number: u64, at: &Dirfrag, generation: u64, snapshot: Snapshot) -> Job
 }
 
 // Base and generation of a fragment that isn't clean; none for one that is.
-fn unsaved(caches: &Caches, at: &Dirfrag) -> Option<(Base, u64)>
+pub(crate) fn unsaved(caches: &Caches, at: &Dirfrag) -> Option<(Base, u64)>
     requires { at.now.rank.0 < length caches.now.used }
-    ensures { result ≡ option_map (λ (u : Unsaved). (u.base, u.generation))
-        (unsaved_in (here caches.now at.now.rank.0 (leaf_of at.now))) }
+    ensures { result ≡ told_of (here caches.now at.now.rank.0 (leaf_of at.now)) }
 {
     match caches.get(*at) {
         Some(fragment) if !fragment.is_clean() => Some((fragment.base(), fragment.generation())),

@@ -72,7 +72,8 @@ impl<S: Store + Drop> MdCache<S> {
     /// clean, brings the objects of directories' trees up to date and removes what is to be removed. The store's cold
     /// tree is the shown tree then, and its objects are exactly those of live leaves and of trees of several leaves.
     /// Whatever it answers, the shown tree is as it was, no commit is begun any more, and no next number is another.
-    /// Takes memory for the snapshots and writes of 256 fragments.
+    /// Takes memory for the list of the leaves that it commits, 24 bytes for each, and for the snapshots and writes of
+    /// 256.
     ///
     /// Refused `NoInodes` where a fragment's version is used up, or fewer than 256 numbers are left for jobs; otherwise
     /// as the store refuses, and `NoMemory`. Part of it may be done then, and another flush goes on with the rest.

@@ -104,11 +104,9 @@ fn gather_cached(
     ensures most { page.new.most ≡ page.old.most }
     ensures refused { IfErr result (λ reason. reason ≡ NoMemory) }
 {
-    match caches.get(*at) {
-        Some(fragment) => match page.take_rows(fragment.rows_after(after)) {
-            Ok(()) => Ok(()),
-            Err(_) => Err(Refusal::NoMemory),
-        },
-        None => unreachable!(),
+    let fragment = caches.get(*at).unwrap();
+    match page.take_rows(fragment.rows_after(after)) {
+        Ok(()) => Ok(()),
+        Err(_) => Err(Refusal::NoMemory),
     }
 }

@@ -30,40 +30,56 @@ impl<S: Store + Drop> MdCache<S> {
         ensures room { IsNoLess self.old.room self.new.room }
         ensures refused { IfErr result (λ reason. reason ≡ NoMemory) }
     {
-        let cover = match merge_cover(alloc, &self.dirs, at) {
-            Ok(cover) => cover,
+        let plan = match planned(alloc, &self.dirs, at) {
+            Ok(plan) => plan,
             Err(refusal) => return Err(refusal),
         };
-        let leaves = ending_leaves_of(alloc, &self.dirs, at)?;
-        self.purge.reserve(leaves.len())?;
-        Ok(MergePlan { leaves, cover })
+        match self.purge.reserve(plan.leaves.len()) {
+            Ok(()) => Ok(plan),
+            Err(_) => {
+                drop(plan);
+                Err(Refusal::NoMemory)
+            }
+        }
     }
 }
 
-// The leaves of a directory once some of them are merged, ready for the table.
-fn merge_cover(alloc: Global, dirs: &Dirs, at: &Dirfrag) -> Result<BoxedTree, Refusal>
+// The leaves of a directory that end with a merge, and those after it. Copies the directory's leaves once.
+fn planned(alloc: Global, dirs: &Dirs, at: &Dirfrag) -> Result<MergePlan, Refusal>
     requires { CanMerge (leaves_of dirs.now.trees at.now.dir.0) at.now.frag }
-    ensures merged { IfOk result (λ cover. IsMerge (leaves_of dirs.now.trees at.now.dir.0) cover at.now.frag) }
+    ensures leaves { IfOk result
+        (λ plan. plan.leaves.items ≡ leaves_inside at.now.frag (leaves_of dirs.now.trees at.now.dir.0)) }
+    ensures merged { IfOk result (λ plan. IsMerge (leaves_of dirs.now.trees at.now.dir.0) plan.cover at.now.frag) }
+    ensures whole { IfOk result (λ plan. IsTree plan.cover) }
+    ensures refused { IfErr result (λ reason. reason ≡ NoMemory) }
+{
+    let tree = dirs.tree(alloc, at.dir)?;
+    let Ok(leaves) = ending_leaves(alloc, at.frag, &tree) else {
+        drop(tree);
+        return Err(Refusal::NoMemory);
+    };
+    match merged_at(alloc, tree, at.frag) {
+        Ok(cover) => Ok(MergePlan { leaves, cover }),
+        Err(refusal) => {
+            drop(leaves);
+            Err(refusal)
+        }
+    }
+}
+
+// These leaves once those inside a fragment are merged, ready for the table.
+fn merged_at(alloc: Global, tree: FragTree, frag: Frag) -> Result<BoxedTree, Refusal>
+    requires { CanMerge tree frag }
+    ensures merged { IfOk result (λ cover. IsMerge tree cover frag) }
     ensures whole { IfOk result (λ cover. IsTree cover) }
     ensures refused { IfErr result (λ reason. reason ≡ NoMemory) }
 {
-    let mut cover = dirs.tree(alloc, at.dir)?;
-    if let Err(refusal) = cover.merge(at.frag) {
+    let mut cover = tree;
+    if let Err(refusal) = cover.merge(frag) {
         drop(cover);
         return Err(refusal);
     }
     Ok(BoxedTree::new(alloc, cover)?)
-}
-
-// The leaves of a directory that lie properly inside a fragment.
-fn ending_leaves_of(alloc: Global, dirs: &Dirs, at: &Dirfrag) -> Result<Vec<Frag>, AllocError>
-    ensures { IfOk result
-        (λ leaves. leaves.items ≡ leaves_inside at.now.frag (leaves_of dirs.now.trees at.now.dir.0)) }
-{
-    let tree = dirs.tree(alloc, at.dir)?;
-    let leaves = ending_leaves(alloc, at.frag, &tree);
-    drop(tree);
-    leaves
 }
 
 // Those of these leaves that lie properly inside a fragment.

@@ -1,6 +1,7 @@
 //! What a split needs beside the caches: the names of objects.
 ghost use Rattle.std.specs.Prelude.{◌≡◌, ◌+◌, ◌≤◌, ◌<◌, ◌^◌, map as each, OnOk, IfOk, IfErr};
 ghost use Rattle.mds_types.specs.declared.refusals.Refusal.TheVariants.{NoMemory};
+ghost use Rattle.mds_types.specs.Frag.{child_of};
 ghost use Rattle.fragtree.specs.FragTree.{CanSplit};
 ghost use Rattle.inode_table.specs.Dirs.{leaves_of};
 ghost use Rattle.mdcache.specs.Core.{IsNoLess};
@@ -50,10 +51,16 @@ fn child_names(alloc: Global, dir: Ino, frag: Frag, nb: u8) -> Result<Vec<ObjTex
 {
     let mut names = Vec::new(alloc);
     for i in 0..child_count(nb) {
-        let Some(child) = frag.child(i, nb) else {
-            unreachable!()
-        };
-        names.push(object_name(dir, child))?;
+        names.push(object_name(dir, child(frag, i, nb)))?;
     }
     Ok(names)
+}
+
+// The child `i` of a fragment by so many bits.
+fn child(frag: Frag, i: u32, nb: u8) -> Frag
+    requires bits { frag.bits + nb ≤ 24 }
+    requires below { i < 2 ^ nb }
+    ensures { result ≡ child_of frag i nb }
+{
+    frag.child(i, nb).unwrap()
 }

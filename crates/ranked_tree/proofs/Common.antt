@@ -44,7 +44,7 @@ pub use Rattle.export_steps.proofs.HoldingSteps.{cancel_holding, finish_holding,
 pub use Rattle.export_steps.specs.Handover.{FreezesSoundly, HandsOver as HandsRegionOver}
 pub use Rattle.export_steps.specs.Holder.{HasHolder, IsFrozen, holder_or, holding, is_imported, region_holder}
 pub use Rattle.export_steps.specs.Regions.{AreFrozenRegionsKept, StandsOver}
-pub use Rattle.export_steps.specs.Standing.{ArePlaced, Cancels, ComesTo, Finishes, IsFreeze, Preps, Standing, Starts, StepsExport, come_to, is_freezing}
+pub use Rattle.export_steps.specs.Standing.{ArePlaced, Cancels, ComesTo, Finishes, IsFreeze, Preps, Standing, Starts, come_to, is_freezing}
 pub use Rattle.export_steps.specs.declared.exports.ExportState.{ExportState}
 pub use Rattle.export_steps.specs.declared.exports.ExportState.TheVariants.{Frozen, Imported, Prepared, Sent, Started}
 pub use Rattle.export_steps.specs.declared.exports.StandingExport.{StandingExport}

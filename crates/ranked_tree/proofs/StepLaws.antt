@@ -1,5 +1,5 @@
 -- What the steps of an export leave of a tree that is divided among ranks.
-use Rattle.ranked_tree.proofs.Common.{ArePlaced, AreRoots, CacheMap, Cancels, ComesTo, Core, Covers, EndsRegion, Err, ExportState, Finishes, FreezesSoundly, Frozen, Homes, IsDivided, IsFreeze, IsFrozen, IsFrozenLeaf, IsLive, IsOwned, IsSome, IsSoundCore, KeepsAuthorities, KeepsOutside, Leaf, NearestRoot, Ok, Option, Prepared, Preps, Rank, Ranked, Refusal, Regions, Result, Roots, Rules, Sent, Some, StandSoundly, Standing, StandingExport, Started, Starts, StepsExport, Subtrees, ap, cancel_holding, cancels_soundly, come_to, finish_holding, finishes_soundly, freezes_soundly, get_beside, get_put, held_in, holder_is, holding, is_freezing, is_some, leaf_cmp, length, not_none, prep_holding, prep_soundly, refl, rules, same_Some, same_or_apart, send_holding, send_soundly, start_holding, start_soundly, state_of, subst, sym, valid_so, ℕ, ⊎_elim, ◌<◌, ◌∙◌, ◌≡◌, ◌≢◌, State}
+use Rattle.ranked_tree.proofs.Common.{ArePlaced, AreRoots, CacheMap, Cancels, ComesTo, Core, Covers, EndsRegion, Err, ExportState, Finishes, FreezesSoundly, Frozen, Homes, IsDivided, IsFreeze, IsFrozen, IsFrozenLeaf, IsLive, IsOwned, IsSome, IsSoundCore, KeepsAuthorities, KeepsOutside, Leaf, NearestRoot, Ok, Option, Prepared, Preps, Rank, Ranked, Refusal, Regions, Result, Roots, Rules, Sent, Some, StandSoundly, Standing, StandingExport, Started, Starts, Subtrees, ap, cancel_holding, cancels_soundly, come_to, finish_holding, finishes_soundly, freezes_soundly, get_beside, get_put, held_in, holder_is, holding, is_freezing, is_some, leaf_cmp, length, not_none, prep_holding, prep_soundly, refl, rules, same_Some, same_or_apart, send_holding, send_soundly, start_holding, start_soundly, state_of, subst, sym, valid_so, ℕ, ⊎_elim, ◌<◌, ◌∙◌, ◌≡◌, ◌≢◌, State}
 use Rattle.std.specs.FinMap as map
 use Rattle.ranked_tree.proofs.HeldLaws.{held_after}
 use Rattle.ranked_tree.proofs.StandLaws.{found_left, held_bound}
@@ -73,14 +73,13 @@ module _ (count : ℕ) (old new : Standing) (was now : Subtrees) (root : Leaf) w
   }
   prep_still (Err reason) is = unmoved count old new was now is.1 is.2.roots
 
-  pub send_still : (result : Result (Unit {0}) Refusal) → StepsExport old new root Prepared Sent result → IsStill count old new was was
-  send_still (Ok done) is = record {
+  pub send_still : ComesTo old new root Prepared Sent → IsStill count old new was was
+  send_still is = record {
     roots = refl;
     holds = send_holding old new root is was.roots;
     there = step_there count old new root Prepared Sent is;
     froze = λ homes covers leaf. ((send_soundly old new root is was.roots homes covers).frozen leaf).0;
   }
-  send_still (Err reason) is = unmoved count old new was was is.2 refl
 
   pub cancel_still : (result : Result (Unit {0}) Refusal) → Cancels old new was now root result → IsStill count old new was now
   cancel_still (Ok done) is = record {

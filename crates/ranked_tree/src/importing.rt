@@ -70,10 +70,8 @@ impl<S: Store + Drop> RankedTree<S> {
         ) {
             return Err(refusal);
         }
-        match self.regions.exports.import(dir, frag) {
-            Ok(()) => Ok(()),
-            Err(_) => unreachable!(),
-        }
+        self.regions.exports.import(dir, frag, export);
+        Ok(())
     }
 }
 

@@ -1,6 +1,9 @@
 //! Send: what isn't clean of the region of a prepared export is handed out as bytes.
-ghost use Rattle.std.specs.Prelude.{◌≡◌, IfErr, IfOk, IsTrue, OnErr};
+ghost use Rattle.std.specs.Prelude.{◌≡◌, Some, IfErr, IfOk, IsTrue, OnErr};
+ghost use Rattle.std.specs.FinMap as map;
 ghost use Rattle.export_bytes.specs.Export.{SpellsExport, is_sendable};
+ghost use Rattle.export_steps.specs.declared.exports.ExportState.TheVariants as state;
+ghost use Rattle.export_steps.specs.Standing.{IsBetweenRanks};
 ghost use Rattle.mdcache.specs.Core.{state_of};
 ghost use Rattle.ranked_tree.specs.Exported.{IsDivided};
 ghost use Rattle.ranked_tree.specs.Ranked.{held_roots};
@@ -10,7 +13,7 @@ use crate::ranked_tree::RankedTree;
 use crate::regions::Regions;
 use export_bytes::{Export, encode_export};
 use export_regions::export_of;
-use export_steps::ExportState;
+use export_steps::{ExportState, StandingExport};
 use mdcache::MdCache;
 use mds_types::{Bytes, Dirfrag, Frag, Ino, Refusal};
 use objstore::Store;
@@ -32,11 +35,12 @@ impl<S: Store + Drop> RankedTree<S> {
         ensures roots { self.new.subtrees ≡ self.old.subtrees }
         ensures holders { held_roots self.new ≡ held_roots self.old }
     {
-        let bytes = region_bytes(alloc, &self.tree, &self.regions, dir, frag)?;
-        match self.regions.exports.send(dir, frag) {
-            Ok(()) => Ok(bytes),
-            Err(_) => unreachable!(),
-        }
+        let Some(export) = self.regions.export_in(dir, frag, ExportState::Prepared) else {
+            return Err(Refusal::WrongExportState);
+        };
+        let bytes = region_bytes(alloc, &self.tree, &self.regions, &(dir, frag), export)?;
+        self.regions.exports.send(dir, frag, export);
+        Ok(bytes)
     }
 }
 
@@ -45,26 +49,25 @@ fn region_bytes<S: Store + Drop>(
     alloc: Global,
     tree: &MdCache<S>,
     regions: &Regions,
-    dir: Ino,
-    frag: Frag,
+    root: &(Ino, Frag),
+    export: StandingExport,
 ) -> Result<Bytes, Refusal>
     requires divided { IsDivided tree.now regions.now }
+    requires stands { map.get regions.now.exports root.now ≡ Some export }
+    requires prepared { export.state ≡ state.Prepared }
+    requires ranks { IsBetweenRanks export }
     ensures sent { IfOk result
-        (λ bytes. SpellsPrepared (state_of tree.now) regions.now.roots.roots regions.now.exports
-        (dir, frag) bytes) }
+        (λ bytes. SpellsPrepared (state_of tree.now) regions.now.roots.roots regions.now.exports root.now bytes) }
     ensures refused { IfErr result
-        (RefusesSend (state_of tree.now) regions.now.roots.roots regions.now.exports (dir, frag)) }
+        (RefusesSend (state_of tree.now) regions.now.roots.roots regions.now.exports root.now) }
 {
-    let Some(export) = regions.export_in(dir, frag, ExportState::Prepared) else {
-        return Err(Refusal::WrongExportState);
-    };
-    let root = Dirfrag {
-        dir,
-        frag,
+    let at = Dirfrag {
+        dir: root.0,
+        frag: root.1,
         rank: export.exporter,
     };
     let (caches, dirs) = (tree.caches(), tree.dirs());
-    let sent = export_of(alloc, caches, &regions.roots, dirs, root, export.importer)?;
+    let sent = export_of(alloc, caches, &regions.roots, dirs, at, export.importer)?;
     Ok(encoded(alloc, &sent)?)
 }
 

@@ -8,8 +8,8 @@ loop-i-init c = subst (λ items. NameFirst c.args.dir c.args.frag c.args.nb 0 it
 pub loop-i-preserved : goal.loop-i-preserved
 loop-i-preserved c =
     subst (NameFirst c.args.dir c.args.frag c.args.nb (c.loop-i.i + 1)) (sym c.in_ok-push.ensures.items)
-    (more_named c.args.dir c.args.frag c.args.nb c.loop-i.i c.loop-i.names.items c.object_name.result c.in-Some.ensures.0.1 c.loop-i.invariant
-    (c.object_name.ensures ∙ ap (λ (f : Fragment). text_of (c.args.dir, f)) c.in-Some.ensures.1))
+    (more_named c.args.dir c.args.frag c.args.nb c.loop-i.i c.loop-i.names.items c.object_name.result (omega (arith, c.loop-i-test.true, c.child_count-i-end.ensures)) c.loop-i.invariant
+    (c.object_name.ensures ∙ ap (λ (f : Fragment). text_of (c.args.dir, f)) c.child.ensures))
 
 pub returns : goal.returns
 returns c = all_named c.args.dir c.args.frag c.args.nb c.loop-i.i c.loop-i.names.items (omega (arith, c.loop-i-test.false, c.child_count-i-end.ensures)) c.loop-i.invariant
