@@ -21,7 +21,7 @@ pub use Rattle.export_bytes.specs.Export.{SentName, has_record, is_base_of, is_f
 pub use Rattle.export_bytes.specs.declared.exports.Export.{Export}
 pub use Rattle.export_bytes.specs.declared.exports.SentFrag.{SentFrag}
 pub use Rattle.export_regions.specs.Counts.{AnyTooMany, is_too_long}
-pub use Rattle.export_regions.specs.KnownDirs.{Answers, AreNoted, AreRight, HoldsDentryOf, IsHeldIn, IsRight}
+pub use Rattle.export_regions.specs.KnownDirs.{KnownAnswers, AreNoted, AreRightAnswers, HoldsDentryOf, IsHeldIn, IsRightAnswer}
 pub use Rattle.export_regions.specs.Regions.{AreSent, HasTooMany, IsExportOf, IsOfRegion, Picks, RegionLeaves, UncleanLeaves, sent_names, sent_of, values, with_leaf}
 pub use Rattle.export_regions.specs.Sending.{AreAtTheirRank, AreBetween, AreLive, AreSendable, HasVersion, HaveVersions, IsExportFrom, IsWord, MaySend, MaySendAll, gathered, sent_from}
 pub use Rattle.fragtree.proofs.Tilings.{between}

@@ -22,20 +22,20 @@ pub record IsHeldIn (roots : Roots) (homes : Homes) (covers : Covers) (root : Le
   pub within : IsOfRegion roots homes covers root holder
 
 -- an answer for a directory is right
-abbrev pub IsRight : Roots → Homes → Covers → Leaf → ℕ → Bool → Type 0
-IsRight roots homes covers root dir answer = IsTrue answer ↔ IsHeldIn roots homes covers root dir
+abbrev pub IsRightAnswer : Roots → Homes → Covers → Leaf → ℕ → Bool → Type 0
+IsRightAnswer roots homes covers root dir answer = IsTrue answer ↔ IsHeldIn roots homes covers root dir
 
 -- from the numbers of directories to their answers
-abbrev pub Answers : Type 0
-Answers = map.FinMap nat_cmp Bool
+abbrev pub KnownAnswers : Type 0
+KnownAnswers = map.FinMap nat_cmp Bool
 
 -- each answer is right
-abbrev pub AreRight : Roots → Homes → Covers → Leaf → Answers → Type 0
-AreRight roots homes covers root answers =
-    (dir : ℕ) (answer : Bool) → map.get answers dir ≡ Some answer → IsRight roots homes covers root dir answer
+abbrev pub AreRightAnswers : Roots → Homes → Covers → Leaf → KnownAnswers → Type 0
+AreRightAnswers roots homes covers root answers =
+    (dir : ℕ) (answer : Bool) → map.get answers dir ≡ Some answer → IsRightAnswer roots homes covers root dir answer
 
 -- these directories have this answer now, and no other answer is new
-abbrev pub AreNoted : List ℕ → Bool → Answers → Answers → Type 0
+abbrev pub AreNoted : List ℕ → Bool → KnownAnswers → KnownAnswers → Type 0
 AreNoted dirs told old new =
     (dir : ℕ) (answer : Bool) → map.get new dir ≡ Some answer
     → ((answer ≡ told) × Contains dirs dir) ⊎ (map.get old dir ≡ Some answer)

@@ -6,7 +6,7 @@ ghost use Rattle.std.specs.FinMap as map;
 ghost use Rattle.sorted_map.specs.SortedMap.{contents};
 ghost use Rattle.mds_types.specs.Leaf.{leaf_of};
 ghost use Rattle.inode_table.specs.Dirs.{Covers, Homes};
-ghost use Rattle.export_regions.specs.KnownDirs.{AreNoted, AreRight, HoldsDentryOf, IsRight};
+ghost use Rattle.export_regions.specs.KnownDirs.{AreNoted, AreRightAnswers, HoldsDentryOf, IsRightAnswer};
 ghost use Rattle.export_regions.specs.Regions.{IsOfRegion};
 
 use crate::regions::is_one;
@@ -33,9 +33,9 @@ impl Model for KnownDirs {
     ghost use Rattle.std.specs.Coded.{codes};
     ghost use Rattle.std.specs.FinMap as map;
     ghost use Rattle.sorted_map.specs.SortedMap.{contents};
-    ghost use Rattle.export_regions.specs.KnownDirs.{Answers};
+    ghost use Rattle.export_regions.specs.KnownDirs.{KnownAnswers};
 
-    ghost Value = { Answers };
+    ghost Value = { KnownAnswers };
 
     ghost coded = { Prim.hlevel (codes, map.code) };
 
@@ -64,11 +64,11 @@ impl KnownDirs {
         leaf: &(Ino, Frag),
         way: &mut Vec<u64>,
     ) -> Result<bool, AllocError>
-        requires right { AreRight subtrees.now.roots dirs.now.homes dirs.now.trees (leaf_of root.now) self.old }
+        requires right { AreRightAnswers subtrees.now.roots dirs.now.homes dirs.now.trees (leaf_of root.now) self.old }
         ensures told { IfOk result (λ told. IsTrue told
             ↔ IsOfRegion subtrees.now.roots dirs.now.homes dirs.now.trees (leaf_of root.now) leaf.now) }
         ensures right { OnOk result
-            (AreRight subtrees.now.roots dirs.now.homes dirs.now.trees (leaf_of root.now) self.new) }
+            (AreRightAnswers subtrees.now.roots dirs.now.homes dirs.now.trees (leaf_of root.now) self.new) }
     {
         if let Some(told) = self.answer(subtrees, root, leaf) {
             return Ok(told);
@@ -82,7 +82,7 @@ impl KnownDirs {
     // directories.
     fn answer(&self, subtrees: &Subtrees, root: &Dirfrag, leaf: &(Ino, Frag)) -> Option<bool>
         ensures known { (homes : Homes) (covers : Covers)
-            → AreRight subtrees.now.roots homes covers (leaf_of root.now) self.now
+            → AreRightAnswers subtrees.now.roots homes covers (leaf_of root.now) self.now
             → IfSome result (λ told. IsTrue told ↔ IsOfRegion subtrees.now.roots homes covers (leaf_of root.now) leaf.now) }
         ensures unknown { IfNone result (map.get subtrees.now.roots leaf.now ≡ None) }
     {
@@ -102,10 +102,10 @@ impl KnownDirs {
         dir: Ino,
         way: &mut Vec<u64>,
     ) -> Result<bool, AllocError>
-        requires right { AreRight subtrees.now.roots dirs.now.homes dirs.now.trees (leaf_of root.now) self.now }
+        requires right { AreRightAnswers subtrees.now.roots dirs.now.homes dirs.now.trees (leaf_of root.now) self.now }
         ensures told { IfOk result
-            (IsRight subtrees.now.roots dirs.now.homes dirs.now.trees (leaf_of root.now) dir.0) }
-        ensures way { IfOk result (λ told. All (λ passed. IsRight subtrees.now.roots dirs.now.homes dirs.now.trees
+            (IsRightAnswer subtrees.now.roots dirs.now.homes dirs.now.trees (leaf_of root.now) dir.0) }
+        ensures way { IfOk result (λ told. All (λ passed. IsRightAnswer subtrees.now.roots dirs.now.homes dirs.now.trees
             (leaf_of root.now) passed told) way.new.items) }
     {
         dirs.is_table();

@@ -1,5 +1,5 @@
 -- Commits of whole fragments, several at once.
-use Rattle.mdcache.proofs.Common.{AllByRecursion, AreOfOtherLeaves, Base, Begins, BeginsUnsaved, Begun, CacheMap, Came, CommitsWhole, Core, Dirfrag, EndsJobOf, Err, HasFragment, IfErr, IfOk, IsBegunAt, IsEnded, IsFree, IsFreeFor, IsLive, IsReadyWrite, IsSound, IsSoundCore, IsThat, IsUncleanAt, Job, Jobs, KeepsTree, Leaf, LeavesOthers, List, MayHold, MayNotBeginAll, MayNotBeginOne, None, NoneEnds, NotAmong, Ok, OnErr, Option, Rank, Ready, Refusal, Some, State, Unsaved, UnsavedLeaves, [], ap, append_assoc, arith, came_held, came_ranks, came_weaker, committed, cond, drop, drop_more, empty_of_len, false, get-empty, get_or, here as here_of, inl, inr, is_some, leaves_of_places, leaves_of_jobs, leaves_of_writes, len-remove, length, map-append, option_map, ready_of, refl, rules, shown_tree, state_of, subst, suc, sym, take, take-map, told_of, true, unclean, unsaved_in, with_job, zero, ℕ, ⊎_elim, ◌++◌, ◌+◌, ◌-◌, ◌<◌, ◌∙◌, ◌∷◌, ◌≡◌}
+use Rattle.mdcache.proofs.Common.{AllByRecursion, AreOfOtherLeaves, Base, Begins, BeginsUnsaved, Begun, CacheMap, Came, CommitsWhole, Core, Dirfrag, EndsJobOf, Err, HasFragment, IfErr, IfOk, IsBegunAt, IsEnded, IsFree, IsFreeFor, IsLive, IsReadyWrite, IsSound, IsSoundCore, IsThat, IsUncleanAt, Job, Jobs, KeepsTree, Leaf, LeavesOtherLeaves, List, MayHold, MayNotBeginAll, MayNotBeginOne, None, NoneEnds, NotAmong, Ok, OnErr, Option, Rank, Ready, Refusal, Some, State, Unsaved, UnsavedLeaves, [], ap, append_assoc, arith, came_held, came_ranks, came_weaker, committed, cond, drop, drop_more, empty_of_len, false, get-empty, get_or, here as here_of, inl, inr, is_some, leaves_of_places, leaves_of_jobs, leaves_of_writes, len-remove, length, map-append, option_map, ready_of, refl, rules, shown_tree, state_of, subst, suc, sym, take, take-map, told_of_commit, true, unclean, unsaved_in, with_job, zero, ℕ, ⊎_elim, ◌++◌, ◌+◌, ◌-◌, ◌<◌, ◌∙◌, ◌∷◌, ◌≡◌}
 use Rattle.std.proofs.Common.{map as list_map, Result}
 use Rattle.std.specs.FinMap as map
 use Rattle.mds_types.specs.Leaf.{leaf_of as leaf_at}
@@ -56,7 +56,7 @@ refused_left s new leaf (Ok job) refused = tt
 refused_left s new leaf (Err reason) refused = refused.1
 
 -- of a leaf that isn't clean base and generation are told
-pub told_some : (c : CacheMap) (r : ℕ) (leaf : Leaf) → IsFreeFor c r leaf → is_some (map.get (unclean c) leaf) ≡ true → is_some (told_of (here_of c r leaf)) ≡ true
+pub told_some : (c : CacheMap) (r : ℕ) (leaf : Leaf) → IsFreeFor c r leaf → is_some (map.get (unclean c) leaf) ≡ true → is_some (told_of_commit (here_of c r leaf)) ≡ true
 told_some c r leaf free dirty = mapped (unsaved_in (here_of c r leaf)) (ap is_some (sym (unclean_here c r leaf free)) ∙ dirty)
   where
     mapped : (o : Option Unsaved) → is_some o ≡ true → is_some {T = Base × ℕ} (option_map (λ (u : Unsaved). (u.base, u.generation)) o) ≡ true
@@ -185,7 +185,7 @@ pub record EndsFirst (old now : Core) (ready : List Ready) (i : ℕ) : Type 0 wh
   pub apart : AreOfOtherLeaves (leaves_of_writes (drop i ready))
   pub whole : CommitsWhole (state_of old) (state_of now)
   pub fewer : map.len (unclean now.caches) + i ≡ map.len (unclean old.caches)
-  pub others : LeavesOthers (leaves_of_writes ready) (unclean old.caches) (unclean now.caches)
+  pub others : LeavesOtherLeaves (leaves_of_writes ready) (unclean old.caches) (unclean now.caches)
   pub tree : KeepsTree old now
   pub faults : now.faults ≡ old.faults
   pub sound : IsSoundCore now
@@ -276,7 +276,7 @@ pub record CommitsFirst (old now : Core) (leaves rest : List Dirfrag) : Type 0 w
 
 -- a batch later
 module _ (old now new : Core) (leaves rest batch after : List Dirfrag) (n : ℕ) (front : batch ≡ take n rest) (back : after ≡ drop n rest) (parts : length after + length batch ≡ length rest) (so_far : CommitsFirst old now leaves rest) where
-  module _ (others : LeavesOthers (leaves_of_places batch) (unclean now.caches) (unclean new.caches)) (keeps_it : KeepsTree now new) where
+  module _ (others : LeavesOtherLeaves (leaves_of_places batch) (unclean now.caches) (unclean new.caches)) (keeps_it : KeepsTree now new) where
     still : (xs : List Dirfrag) → AllByRecursion (IsUncleanAt now.caches) xs → AllByRecursion (λ (a : Dirfrag). NotAmong (leaf_at a) (leaves_of_places batch)) xs → AllByRecursion (IsUncleanAt new.caches) xs
     still [] all apart = tt
     still (a ∷ xs) (one, all) (other, apart) = (

@@ -82,11 +82,11 @@ pub use Rattle.inode_table.specs.Order.{trees_after}
 pub use Rattle.inode_table.specs.TreeChanges.{KeepLeaves, MayAdd, MayRemove, MaySet}
 pub use Rattle.inode_table.specs.TreeTable.{IsCounted, IsTabled, counts_moved, home_at, with_count, with_home, with_dir_pin, without_cover, without_home, without_row}
 pub use Rattle.inode_table.specs.declared.dirs.Home.{Home}
-pub use Rattle.mdcache.specs.Batches.{AreOfOtherLeaves, CommitsWhole, IsAsItWas, IsBegunAt, IsReadied, IsReadyWrite, IsUncleanAt, IsSavedNow, LeavesOthers, MayNotBeginAll, MayNotBeginOne, MayNotCommit, NotAmong, leaves_of_places, leaves_of_jobs, leaves_of_writes, ready_of}
+pub use Rattle.mdcache.specs.Batches.{AreOfOtherLeaves, CommitsWhole, IsAsItWas, IsBegunAt, IsReadied, IsReadyWrite, IsUncleanAt, IsSavedNow, LeavesOtherLeaves, MayNotBeginAll, MayNotBeginOne, MayNotCommit, NotAmong, leaves_of_places, leaves_of_jobs, leaves_of_writes, ready_of}
 pub use Rattle.mdcache.specs.CacheReads.{IsNewestOf, LacksPlacesIn}
 pub use Rattle.mdcache.specs.Changes.{Alters, IsAsItStands, IsNamed, Makes, PutsThen, TakesThen, dirtied, first_leaf, housed, just_made, leaves_in, noted_change, object_texts_of, rows_but, with_directory, with_home_at, with_name, with_new, with_objects, without_directory, without_gone_dir, without_leaves}
 pub use Rattle.mdcache.specs.Changing.{ChangesTree, IsChangedBy}
-pub use Rattle.mdcache.specs.Commits.{Begins, BeginsUnsaved, Drops, EndsJobOf, HasSpelled, IsAtEnd, IsDropped, IsEnded, MayNotBeginJob, committed, job_for, names_then, stored_with, told_of, with_job}
+pub use Rattle.mdcache.specs.Commits.{Begins, BeginsUnsaved, Drops, EndsJobOf, HasSpelled, IsAtEnd, IsDropped, IsEnded, MayNotBeginJob, committed, job_for, names_then, stored_with, told_of_commit, with_job}
 pub use Rattle.mdcache.specs.Core.{AllCachedIn, Core, IsCachedIn, IsJobOf, IsNoLess, IsSoundCore, LacksPlacesAt, MayFetch, ReadsCore, Rooms, made_frag, named, pinned, shown_in, shows, state_of, used_core, with_entry_counted, with_job_in, without_dir, without_entry, without_frags}
 pub use Rattle.mdcache.specs.Flushed.{AreExact, ArePurged, BegunAreAtHand, BegunLeaveAtHand, EndedAreClean, FlushedIsCold, HasFragment, IsAtHand, IsFlushed, KeepsTree, OthersStayAtHand, PurgedAreExact, PurgedAreFlushed, StepsKeepTree}
 pub use Rattle.mdcache.specs.Frags.{KeepsState}

@@ -36,7 +36,7 @@ AreOfOtherLeaves [] = Unit {0}
 AreOfOtherLeaves (leaf ∷ leaves) = NotAmong leaf leaves × AreOfOtherLeaves leaves
 
 -- what isn't clean is as it was, but of these leaves
-pub record LeavesOthers (leaves : List Leaf) (old new : UnsavedLeaves) : Type 0 where
+pub record LeavesOtherLeaves (leaves : List Leaf) (old new : UnsavedLeaves) : Type 0 where
   pub same : (q : Leaf) → NotAmong q leaves → map.get new q ≡ map.get old q
 
 -- where fragments lie, and whose jobs were begun

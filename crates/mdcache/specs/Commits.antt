@@ -43,8 +43,8 @@ abbrev pub leaf_of_job : Job → Leaf
 leaf_of_job job = (job.ino, job.frag)
 
 -- base and generation of a fragment that isn't clean; none of one that is
-abbrev pub told_of : Option Cached → Option (Base × ℕ)
-told_of o = option_map (λ (u : Unsaved). (u.base, u.generation)) (unsaved_in o)
+abbrev pub told_of_commit : Option Cached → Option (Base × ℕ)
+told_of_commit o = option_map (λ (u : Unsaved). (u.base, u.generation)) (unsaved_in o)
 
 -- the job stands, and its number is taken
 abbrev pub with_job : State → Job → State

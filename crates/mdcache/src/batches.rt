@@ -7,7 +7,7 @@ ghost use Rattle.objstore.specs.Objects.{MayRefuse, faults_told};
 ghost use Rattle.mds_types.specs.Leaf.{leaf_of};
 ghost use Rattle.mds_types.specs.declared.refusals.Refusal.TheVariants.{NoMemory};
 ghost use Rattle.dentry_cache.specs.CacheMap.{unclean};
-ghost use Rattle.mdcache.specs.Batches.{AreOfOtherLeaves, CommitsWhole, IsBegunAt, IsReadied, IsReadyWrite, IsUncleanAt, LeavesOthers, MayNotBeginAll};
+ghost use Rattle.mdcache.specs.Batches.{AreOfOtherLeaves, CommitsWhole, IsBegunAt, IsReadied, IsReadyWrite, IsUncleanAt, LeavesOtherLeaves, MayNotBeginAll};
 ghost use Rattle.mdcache.specs.Batches.{MayNotBeginOne, MayNotCommit, leaves_of_places, leaves_of_jobs, leaves_of_writes, ready_of};
 ghost use Rattle.mdcache.specs.Commits.{Begins, IsEnded, leaf_of_job};
 ghost use Rattle.mdcache.specs.Core.{IsSoundCore, state_of};
@@ -150,7 +150,7 @@ impl<S: Store + Drop> MdCache<S> {
         ensures fewer { OnOk result
             (map.len (unclean self.new.caches) + length leaves.now ≡ map.len (unclean self.old.caches)) }
         ensures others { OnOk result
-            (LeavesOthers (leaves_of_places leaves.now) (unclean self.old.caches) (unclean self.new.caches)) }
+            (LeavesOtherLeaves (leaves_of_places leaves.now) (unclean self.old.caches) (unclean self.new.caches)) }
         ensures tree { KeepsTree self.old self.new }
         ensures refused { IfErr result
             (MayNotCommit (length leaves.now) (state_of self.old) self.old.faults self.new.faults) }
@@ -198,7 +198,7 @@ impl<S: Store + Drop> MdCache<S> {
         ensures fewer { OnOk result
             (map.len (unclean self.new.caches) + length leaves.now ≡ map.len (unclean self.old.caches)) }
         ensures others { OnOk result
-            (LeavesOthers (leaves_of_places leaves.now) (unclean self.old.caches) (unclean self.new.caches)) }
+            (LeavesOtherLeaves (leaves_of_places leaves.now) (unclean self.old.caches) (unclean self.new.caches)) }
         ensures tree { KeepsTree self.old self.new }
         ensures refused { IfErr result
             (MayNotCommit (length leaves.now) (state_of self.old) self.old.faults self.new.faults) }
@@ -262,7 +262,7 @@ impl<S: Store + Drop> MdCache<S> {
         ensures fewer { OnOk result
             (map.len (unclean self.new.caches) + length ready.now ≡ map.len (unclean self.old.caches)) }
         ensures others { OnOk result
-            (LeavesOthers (leaves_of_writes ready.now) (unclean self.old.caches) (unclean self.new.caches)) }
+            (LeavesOtherLeaves (leaves_of_writes ready.now) (unclean self.old.caches) (unclean self.new.caches)) }
         ensures tree { KeepsTree self.old self.new }
         ensures refused { IfErr result (MayRefuse self.old.faults self.new.faults) }
         ensures counted { self.new.faults ≡ self.old.faults + faults_told (result_err result) }

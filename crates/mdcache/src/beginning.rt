@@ -9,7 +9,7 @@ ghost use Rattle.cached_frag.specs.Cached.{Cached, is_clean};
 ghost use Rattle.dentry_cache.specs.Cache.{HasCached};
 ghost use Rattle.dentry_cache.specs.CacheMap.{here, used_at};
 ghost use Rattle.dentry_cache.specs.Came.{Came, IsThat, NoneEnds};
-ghost use Rattle.mdcache.specs.Commits.{Begins, IsAtEnd, told_of};
+ghost use Rattle.mdcache.specs.Commits.{Begins, IsAtEnd, told_of_commit};
 ghost use Rattle.mdcache.specs.Core.{IsJobOf, IsSoundCore, state_of, used_core, with_job_in};
 ghost use Rattle.mdcache.specs.Ranks.{MayHold};
 
@@ -60,7 +60,7 @@ impl<S: Store + Drop> MdCache<S> {
         requires live { IsLive self.old.homes self.old.covers (leaf_of at.now) }
         requires holds { MayHold self.old.caches at.now.rank (leaf_of at.now) }
         requires free { map.get self.old.jobs (leaf_of at.now) ≡ None }
-        requires told { Some (base, generation) ≡ told_of (here self.old.caches at.now.rank.0 (leaf_of at.now)) }
+        requires told { Some (base, generation) ≡ told_of_commit (here self.old.caches at.now.rank.0 (leaf_of at.now)) }
         ensures begun { IfOk result
             (λ job. Begins (state_of self.old) (state_of self.new) (leaf_of at.now) (Ok (Some job))) }
         ensures refused { IfErr result
@@ -122,7 +122,7 @@ fn job_of(number: u64, at: &Dirfrag, generation: u64, snapshot: Snapshot) -> Job
 // Base and generation of a fragment that isn't clean; none for one that is.
 pub(crate) fn unsaved(caches: &Caches, at: &Dirfrag) -> Option<(Base, u64)>
     requires { at.now.rank.0 < length caches.now.used }
-    ensures { result ≡ told_of (here caches.now at.now.rank.0 (leaf_of at.now)) }
+    ensures { result ≡ told_of_commit (here caches.now at.now.rank.0 (leaf_of at.now)) }
 {
     match caches.get(*at) {
         Some(fragment) if !fragment.is_clean() => Some((fragment.base(), fragment.generation())),

@@ -1,5 +1,5 @@
 -- Where no root is passed, a directory has the answer of its parent.
-use Rattle.export_regions.proofs.Common.{All-nil, All-same, Bool, IsRight, false, leaf_of, ℕ, []}
+use Rattle.export_regions.proofs.Common.{All-nil, All-same, Bool, IsRightAnswer, false, leaf_of, ℕ, []}
 use Rattle.export_regions.proofs.KnownLaws.{holder_nearer, nowhere, of_above, of_holder, passed_more}
 use Rattle.export_regions.proofs.known_dirs.KnownDirs.climb.Goals as goal
 
@@ -7,8 +7,8 @@ pub loop-holder-init : goal.loop-holder-init
 loop-holder-init c = record {
   table = c.is_table.ensures;
   first = λ told right. right;
-  passed = λ told right. All-same (λ (d : ℕ). IsRight c.args.subtrees.now.roots c.args.dirs.now.homes c.args.dirs.now.trees (leaf_of c.args.root.now) d told) c.clear.new.self.items [] c.clear.ensures.items
-      (All-nil (λ (d : ℕ). IsRight c.args.subtrees.now.roots c.args.dirs.now.homes c.args.dirs.now.trees (leaf_of c.args.root.now) d told));
+  passed = λ told right. All-same (λ (d : ℕ). IsRightAnswer c.args.subtrees.now.roots c.args.dirs.now.homes c.args.dirs.now.trees (leaf_of c.args.root.now) d told) c.clear.new.self.items [] c.clear.ensures.items
+      (All-nil (λ (d : ℕ). IsRightAnswer c.args.subtrees.now.roots c.args.dirs.now.homes c.args.dirs.now.trees (leaf_of c.args.root.now) d told));
 }
 
 pub returns-in_default-clause-told : goal.returns-in_default-clause-told
@@ -40,6 +40,6 @@ loop-holder-preserved c = record {
       (c.loop-holder.invariant.passed told (up told right)) right;
 }
   where
-    up : (told : Bool) → IsRight c.args.subtrees.now.roots c.args.dirs.now.homes c.args.dirs.now.trees (leaf_of c.args.root.now) c.in-Some.holder.0.0 told
-        → IsRight c.args.subtrees.now.roots c.args.dirs.now.homes c.args.dirs.now.trees (leaf_of c.args.root.now) c.loop-holder.at.0 told
+    up : (told : Bool) → IsRightAnswer c.args.subtrees.now.roots c.args.dirs.now.homes c.args.dirs.now.trees (leaf_of c.args.root.now) c.in-Some.holder.0.0 told
+        → IsRightAnswer c.args.subtrees.now.roots c.args.dirs.now.homes c.args.dirs.now.trees (leaf_of c.args.root.now) c.loop-holder.at.0 told
     up told right = of_above c.args.subtrees.now.roots c.args.dirs.now.homes c.args.dirs.now.trees (leaf_of c.args.root.now) told c.loop-holder.at.0 c.in-Some.holder c.in-Some.ensures c.in_default-answer.ensures.unknown right

@@ -1,6 +1,6 @@
 use Rattle.std.specs.FinMap as map
 use Rattle.mds_types.specs.Leaf.{leaf_of as leaf_at}
-use Rattle.mdcache.proofs.Common.{Core, ap, here, rules, stays, sym, told_of, ◌∙◌}
+use Rattle.mdcache.proofs.Common.{Core, ap, here, rules, stays, sym, told_of_commit, ◌∙◌}
 use Rattle.mdcache.proofs.BeginSteps.{begins_none, none_found}
 use Rattle.mdcache.proofs.mdcache.MdCache.begin.Goals as goal
 
@@ -18,4 +18,4 @@ begin_unsaved-requires-clause-free g c =
 
 pub begin_unsaved-requires-clause-told : goal.begin_unsaved-requires-clause-told
 begin_unsaved-requires-clause-told g c =
-    sym c.in-Some.is ∙ c.unsaved.ensures ∙ ap (λ (k : Core). told_of (here k.caches c.args.at.now.rank.0 (leaf_at c.args.at.now))) c.self.view_is
+    sym c.in-Some.is ∙ c.unsaved.ensures ∙ ap (λ (k : Core). told_of_commit (here k.caches c.args.at.now.rank.0 (leaf_at c.args.at.now))) c.self.view_is

@@ -1,5 +1,5 @@
 use Rattle.mds_types.specs.Leaf.{leaf_of}
-use Rattle.mdcache.proofs.Common.{Core, IfErr-weaker, MayNotBeginOne, ap, here, state_of, sym, told_of, ◌∙◌}
+use Rattle.mdcache.proofs.Common.{Core, IfErr-weaker, MayNotBeginOne, ap, here, state_of, sym, told_of_commit, ◌∙◌}
 use Rattle.mdcache.proofs.BatchLaws.{begin_refused, either_keeps, refused_left, told_some, unclean_live}
 use Rattle.mdcache.specs.Commits.{Begins}
 use Rattle.std.specs.Prelude.{Err, is_some}
@@ -7,7 +7,7 @@ use Rattle.mdcache.proofs.mdcache.MdCache.begin_one.Goals as goal
 
 pub unwrap-base-requires : goal.unwrap-base-requires
 unwrap-base-requires g c =
-    ap is_some (c.unsaved.ensures ∙ ap (λ (k : Core). told_of (here k.caches c.args.at.now.rank.0 (leaf_of c.args.at.now))) c.self.view_is)
+    ap is_some (c.unsaved.ensures ∙ ap (λ (k : Core). told_of_commit (here k.caches c.args.at.now.rank.0 (leaf_of c.args.at.now))) c.self.view_is)
     ∙ told_some c.args.self.now.caches c.args.at.now.rank.0 (leaf_of c.args.at.now) c.requires.unclean.holds.alone c.requires.unclean.dirty
 
 pub begin_unsaved-requires-clause-live : goal.begin_unsaved-requires-clause-live
@@ -15,7 +15,7 @@ begin_unsaved-requires-clause-live g c = unclean_live (state_of c.args.self.now)
 
 pub begin_unsaved-requires-clause-told : goal.begin_unsaved-requires-clause-told
 begin_unsaved-requires-clause-told g c =
-    sym c.unwrap-base.ensures ∙ c.unsaved.ensures ∙ ap (λ (k : Core). told_of (here k.caches c.args.at.now.rank.0 (leaf_of c.args.at.now))) c.self.view_is
+    sym c.unwrap-base.ensures ∙ c.unsaved.ensures ∙ ap (λ (k : Core). told_of_commit (here k.caches c.args.at.now.rank.0 (leaf_of c.args.at.now))) c.self.view_is
 
 pub returns-clause-left : goal.returns-clause-left
 returns-clause-left g c = refused_left (state_of c.args.self.now) (state_of c.begin_unsaved.new.self) (leaf_of c.args.at.now) c.begin_unsaved.result c.begin_unsaved.ensures.refused

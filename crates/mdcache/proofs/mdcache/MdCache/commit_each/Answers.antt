@@ -1,5 +1,5 @@
 -- The jobs of all leaves begin, are encoded, and end.
-use Rattle.mdcache.proofs.Common.{AllByRecursion, AreOfOtherLeaves, IsReadyWrite, LeavesOthers, State, ap, leaves_of_writes, state_of, subst, sym, unclean, ◌∙◌}
+use Rattle.mdcache.proofs.Common.{AllByRecursion, AreOfOtherLeaves, IsReadyWrite, LeavesOtherLeaves, State, ap, leaves_of_writes, state_of, subst, sym, unclean, ◌∙◌}
 use Rattle.std.specs.Prelude.{OnOk}
 use Rattle.mdcache.proofs.BatchLaws.{begun_ready, leaves_ready}
 use Rattle.mdcache.proofs.CommittedLaws.{given_up_whole, whole_then}
@@ -23,6 +23,6 @@ returns-clause-tree g c = steps_keep_tree c.args.self.now c.begin_each.new.self 
 
 pub returns-clause-others : goal.returns-clause-others
 returns-clause-others g c =
-    let before = subst (λ m. OnOk c.end_each-ended.result (LeavesOthers (leaves_of_writes c.as_slice.result.now) m (unclean c.end_each-ended.new.self.caches))) (ap (λ (s : State). s.unsaved) c.in-Ok.ensures.left) c.end_each-ended.ensures.others in
-    subst (λ ls. OnOk c.end_each-ended.result (LeavesOthers ls (unclean c.args.self.now.caches) (unclean c.end_each-ended.new.self.caches)))
+    let before = subst (λ m. OnOk c.end_each-ended.result (LeavesOtherLeaves (leaves_of_writes c.as_slice.result.now) m (unclean c.end_each-ended.new.self.caches))) (ap (λ (s : State). s.unsaved) c.in-Ok.ensures.left) c.end_each-ended.ensures.others in
+    subst (λ ls. OnOk c.end_each-ended.result (LeavesOtherLeaves ls (unclean c.args.self.now.caches) (unclean c.end_each-ended.new.self.caches)))
     (ap leaves_of_writes (c.as_slice.ensures.value ∙ c.in-Ok-encode_each.ensures.encoded) ∙ leaves_ready c.in-Ok.begun.items ∙ c.in-Ok.ensures.leaves) before
