@@ -19,7 +19,7 @@ shown_as None was = was
 -- a fragment has taken these names in, at this version
 pub record Joins (f now : Cached) (names : Names) (version : ℕ) : Type 0 where
   pub dirty : (name : List ℕ) → map.get now.dirty name ≡ marked_as version (map.get names name) (map.get f.dirty name)
-  pub shown_names : (name : List ℕ) → map.get (shown_names now) name ≡ shown_as (map.get names name) (map.get (shown_names f) name)
+  pub shown : (name : List ℕ) → map.get (shown_names now) name ≡ shown_as (map.get names name) (map.get (shown_names f) name)
   pub room : now.room + map.len names ≡ f.room
   pub same : now ≡ record {
     base =
@@ -34,7 +34,7 @@ pub record Joins (f now : Cached) (names : Names) (version : ℕ) : Type 0 where
 -- a fragment has taken these names in, at this version, whatever room it has now
 pub record TakesIn (f now : Cached) (names : Names) (version : ℕ) : Type 0 where
   pub dirty : (name : List ℕ) → map.get now.dirty name ≡ marked_as version (map.get names name) (map.get f.dirty name)
-  pub shown_names : (name : List ℕ) → map.get (shown_names now) name ≡ shown_as (map.get names name) (map.get (shown_names f) name)
+  pub shown : (name : List ℕ) → map.get (shown_names now) name ≡ shown_as (map.get names name) (map.get (shown_names f) name)
   pub same : now ≡ record {
     base =
         f.base;

@@ -16,7 +16,7 @@ impl CachedFrag {
         requires recordable { IsRecordable inode }
         requires room { 0 < self.old.room }
         ensures marked { self.new ≡ marked self.old name (record { version = version; inode = Some inode }) }
-        ensures shown_names { shown_names self.new ≡ map.insert (shown_names self.old) name inode }
+        ensures shown { shown_names self.new ≡ map.insert (shown_names self.old) name inode }
     {
         match &mut self.store {
             Store::Named(named) => named.put(near, name, inode, version),
@@ -30,7 +30,7 @@ impl CachedFrag {
     pub fn erase(&mut self, near: &Finger, name: Name, version: u64)
         requires { 0 < self.old.room }
         ensures marked { self.new ≡ marked self.old name (record { version = version; inode = None }) }
-        ensures shown_names { shown_names self.new ≡ map.remove (shown_names self.old) name }
+        ensures shown { shown_names self.new ≡ map.remove (shown_names self.old) name }
     {
         match &mut self.store {
             Store::Named(named) => named.erase(near, name, version),

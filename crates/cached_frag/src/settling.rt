@@ -45,7 +45,7 @@ impl CachedFrag {
         ensures dirty { self.new.dirty ≡ unsettled self.old.dirty names.now }
         ensures base { self.new.base ≡ Base.Stored version }
         ensures generation { self.new.generation ≡ self.old.generation }
-        ensures shown_names { shown_names self.new ≡ shown_names self.old }
+        ensures shown { shown_names self.new ≡ shown_names self.old }
     {
         match &mut self.store {
             Store::Fresh { alloc, generation } => {

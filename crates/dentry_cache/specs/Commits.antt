@@ -25,7 +25,7 @@ pub record IsCleanedOf (names : Marks) (version : ℕ) (f now : Cached) : Type 0
   pub based : now.base ≡ Stored version
   pub generation : now.generation ≡ f.generation
   pub dirty : now.dirty ≡ unsettled f.dirty names
-  pub shown_names : shown_names now ≡ shown_names f
+  pub shown : shown_names now ≡ shown_names f
 
 -- a fragment whose snapshot was committed
 abbrev pub IsCommitted : Snap → Cached → Cached → Type 0

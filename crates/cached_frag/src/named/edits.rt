@@ -23,7 +23,7 @@ impl NamedFrag {
         requires recordable { IsRecordable inode }
         requires room { 0 < self.old.room }
         ensures marked { self.new ≡ marked self.old name (record { version = version; inode = Some inode }) }
-        ensures shown_names { shown_names self.new ≡ map.insert (shown_names self.old) name inode }
+        ensures shown { shown_names self.new ≡ map.insert (shown_names self.old) name inode }
     {
         let inode = Some(inode);
         self.mark(near, name, Mark { version, inode });
@@ -33,7 +33,7 @@ impl NamedFrag {
     pub(crate) fn erase(&mut self, near: &Finger, name: Name, version: u64)
         requires { 0 < self.old.room }
         ensures marked { self.new ≡ marked self.old name (record { version = version; inode = None }) }
-        ensures shown_names { shown_names self.new ≡ map.remove (shown_names self.old) name }
+        ensures shown { shown_names self.new ≡ map.remove (shown_names self.old) name }
     {
         let inode = None;
         self.mark(near, name, Mark { version, inode });
@@ -44,7 +44,7 @@ impl NamedFrag {
         requires recordable { IfSome mark.inode IsRecordable }
         requires room { 0 < self.old.room }
         ensures marked { self.new ≡ marked self.old name mark }
-        ensures shown_names { shown_names self.new ≡ with_changed_name (shown_names self.old) name mark.inode }
+        ensures shown { shown_names self.new ≡ with_changed_name (shown_names self.old) name mark.inode }
     {
         dirty_names_are_recorded(&name, &mark);
         let after = counted(mark.inode.as_ref());

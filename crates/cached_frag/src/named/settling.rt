@@ -35,7 +35,7 @@ impl NamedFrag {
         ensures dirty { self.new.dirty ≡ unsettled self.old.dirty names.now }
         ensures base { self.new.base ≡ Base.Stored version }
         ensures generation { self.new.generation ≡ self.old.generation }
-        ensures shown_names { shown_names self.new ≡ shown_names self.old }
+        ensures shown { shown_names self.new ≡ shown_names self.old }
     {
         settle_all(&mut self.clean, &mut self.dirty, names);
         self.base = Base::Stored(version);
@@ -53,7 +53,7 @@ fn settle_all(
     requires entries { AreEntries (contents key_cmp clean.old) }
     requires marks { AreDirtyNames (contents key_cmp dirty.old) }
     ensures dirty { contents key_cmp dirty.new ≡ unsettled (contents key_cmp dirty.old) names.now }
-    ensures shown_names { patched (contents key_cmp clean.new) (contents key_cmp dirty.new) ≡ patched
+    ensures shown { patched (contents key_cmp clean.new) (contents key_cmp dirty.new) ≡ patched
         (contents key_cmp clean.old) (contents key_cmp dirty.old) }
     ensures entries { AreEntries (contents key_cmp clean.new) }
     ensures marks { AreDirtyNames (contents key_cmp dirty.new) }
@@ -91,7 +91,7 @@ fn settle_each(
     requires entries { AreEntries (contents key_cmp clean.old) }
     requires marks { AreDirtyNames (contents key_cmp dirty.old) }
     ensures dirty { contents key_cmp dirty.new ≡ unsettled (contents key_cmp dirty.old) names.now }
-    ensures shown_names { patched (contents key_cmp clean.new) (contents key_cmp dirty.new) ≡ patched
+    ensures shown { patched (contents key_cmp clean.new) (contents key_cmp dirty.new) ≡ patched
         (contents key_cmp clean.old) (contents key_cmp dirty.old) }
     ensures entries { AreEntries (contents key_cmp clean.new) }
     ensures marks { AreDirtyNames (contents key_cmp dirty.new) }
@@ -112,7 +112,7 @@ fn settle_one(
     requires entries { AreEntries (contents key_cmp clean.old) }
     requires marks { AreDirtyNames (contents key_cmp dirty.old) }
     ensures dirty { contents key_cmp dirty.new ≡ settled_one (contents key_cmp dirty.old) name.now version }
-    ensures shown_names { patched (contents key_cmp clean.new) (contents key_cmp dirty.new) ≡ patched
+    ensures shown { patched (contents key_cmp clean.new) (contents key_cmp dirty.new) ≡ patched
         (contents key_cmp clean.old) (contents key_cmp dirty.old) }
     ensures entries { AreEntries (contents key_cmp clean.new) }
     ensures marks { AreDirtyNames (contents key_cmp dirty.new) }
