@@ -1,10 +1,10 @@
 //! The next step of a rank's exports. No memory is taken.
-ghost use Rattle.std.specs.Prelude.{◌↔◌, ℕ, List, IsTrue};
+ghost use Rattle.std.specs.Prelude.{◌↔◌, ℕ, List, IsTrue, MatchOption};
 ghost use Rattle.export_steps.specs.declared.exports.ExportState.TheVariants as at;
 ghost use Rattle.inboxes.specs.declared.pins.Pin.{Pin};
 ghost use Rattle.mds_types.specs.declared.ids.Rank.{Rank as RankNumber};
+ghost use Rattle.cluster_core.specs.declared.events.Event.{Event as Step};
 ghost use Rattle.cluster_core.specs.Proposal.{IsFirstStep, IsMine, IsNextStep, WouldFreeze, OfExport, sight_of};
-ghost use Rattle.subtree_map.specs.Authority.{FindsAny};
 
 use crate::events::Event;
 use crate::pinned::is_region_pinned;
@@ -42,7 +42,9 @@ fn next_step<S: Store + Drop>(
     root: (Ino, Frag),
     state: ExportState,
 ) -> Option<Event>
-    ensures { (ranks : ℕ) → FindsAny (IsNextStep (sight_of tree.now grants.now ranks rank) root state) result }
+    ensures { (ranks : ℕ) → MatchOption result
+        ((event : Step) → IsNextStep (sight_of tree.now grants.now ranks rank) root state event → ⊥)
+        (λ event. IsNextStep (sight_of tree.now grants.now ranks rank) root state event) }
 {
     let (ino, frag) = root;
     match state {
@@ -67,7 +69,9 @@ fn begin<S: Store + Drop>(
     ino: Ino,
     frag: Frag,
 ) -> Option<Event>
-    ensures { (ranks : ℕ) → FindsAny (IsNextStep (sight_of tree.now grants.now ranks rank) (ino, frag) at.Started) result }
+    ensures { (ranks : ℕ) → MatchOption result
+        ((event : Step) → IsNextStep (sight_of tree.now grants.now ranks rank) (ino, frag) at.Started event → ⊥)
+        (λ event. IsNextStep (sight_of tree.now grants.now ranks rank) (ino, frag) at.Started event) }
 {
     if !is_mine(tree, rank, ino, frag) {
         return Some(Event::Cancel { ino, frag });

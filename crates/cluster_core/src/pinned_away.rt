@@ -3,9 +3,9 @@ ghost use Rattle.std.specs.Prelude.{◌≡◌, ◌≢◌, ◌⊎◌, ◌↔◌, 
 ghost use Rattle.std.specs.FinMap as map;
 ghost use Rattle.inboxes.specs.declared.pins.Pin.{Pin};
 ghost use Rattle.mds_types.specs.Leaf.{Leaf};
+ghost use Rattle.mds_types.specs.declared.ids.Rank.{Rank as RankNumber};
 ghost use Rattle.cluster_core.specs.Pins.{HasPin};
 ghost use Rattle.cluster_core.specs.Proposal.{IsAwayTo, IsFirstAway, IsFirstStep, IsOfPinned, IsProposable, IsRootAt, WouldStart, OfPin, Sight, lesser_away, lesser_candidate, sight_of};
-ghost use Rattle.subtree_map.specs.Authority.{FindsAny};
 
 use crate::events::Event;
 use crate::going_on::is_mine;
@@ -101,7 +101,9 @@ fn away_to<S: Store + Drop>(
     ino: Ino,
     frag: Frag,
 ) -> Option<Rank>
-    ensures { (grants : List Pin) → FindsAny (IsAwayTo (sight_of tree.now grants ranks rank) (ino, frag)) result }
+    ensures { (grants : List Pin) → MatchOption result
+        ((to : RankNumber) → IsAwayTo (sight_of tree.now grants ranks rank) (ino, frag) to → ⊥)
+        (λ to. IsAwayTo (sight_of tree.now grants ranks rank) (ino, frag) to) }
 {
     let Some(to) = pin_of(tree.dirs(), ino) else {
         return None;
@@ -144,7 +146,8 @@ fn may_start<S: Store + Drop>(tree: &RankedTree<S>, rank: Rank, ino: Ino, frag: 
 
 // The effective pin of a directory.
 fn pin_of(dirs: &Dirs, dir: Ino) -> Option<Rank>
-    ensures { FindsAny (HasPin dirs.now.pins dirs.now.homes dir.0) result }
+    ensures { MatchOption result ((rank : RankNumber) → HasPin dirs.now.pins dirs.now.homes dir.0 rank → ⊥)
+        (λ rank. HasPin dirs.now.pins dirs.now.homes dir.0 rank) }
 {
     dirs.is_table();
     let mut at = dir;

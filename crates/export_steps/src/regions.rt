@@ -1,8 +1,9 @@
 //! Which leaves are frozen, and which rank holds a leaf.
-ghost use Rattle.std.specs.Prelude.{◌≡◌, ◌↔◌, IsTrue};
+ghost use Rattle.std.specs.Prelude.{◌≡◌, ◌↔◌, MatchOption, IsTrue};
 ghost use Rattle.std.specs.FinMap as map;
+ghost use Rattle.mds_types.specs.declared.ids.Rank.{Rank as RankNumber};
 ghost use Rattle.inode_table.specs.Dirs.{IsLive};
-ghost use Rattle.subtree_map.specs.Authority.{FindsAny, IsSubtrees};
+ghost use Rattle.subtree_map.specs.Authority.{IsSubtrees};
 ghost use Rattle.export_steps.specs.Holder.{HasHolder, IsFrozen, region_holder};
 
 use crate::exports::{ExportState, Exports};
@@ -53,7 +54,9 @@ impl Exports {
         dir: Ino,
         frag: Frag,
     ) -> Option<Rank>
-        ensures { FindsAny (HasHolder self.now subtrees.now.roots dirs.now.homes dirs.now.trees (dir, frag)) result }
+        ensures { MatchOption result
+            ((rank : RankNumber) → HasHolder self.now subtrees.now.roots dirs.now.homes dirs.now.trees (dir, frag) rank
+            → ⊥) (HasHolder self.now subtrees.now.roots dirs.now.homes dirs.now.trees (dir, frag)) }
     {
         if self.rows.is_empty() {
             return subtrees.find_authority(dirs, dir, frag);

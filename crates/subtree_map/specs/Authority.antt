@@ -1,5 +1,5 @@
 -- Whose fragment it is: that of the nearest subtree root (Weil et al., OSDI 2006; CephFS's subtree map).
-use Rattle.std.specs.Prelude.{◌≡◌, ℕ, true, Option, Some, None, IsSome}
+use Rattle.std.specs.Prelude.{◌≡◌, ℕ, true, Some, None, IsSome}
 use Rattle.std.specs.FinMap as map
 use Rattle.mds_types.specs.declared.ids.Ino.{Ino}
 use Rattle.mds_types.specs.declared.ids.Rank.{Rank}
@@ -9,11 +9,6 @@ use Rattle.fragtree.specs.FragTree.{HasLeaf, IsPick}
 use Rattle.namehash.specs.Rjenkins.{hash_of}
 use Rattle.inode_table.specs.declared.dirs.Home.{Home}
 use Rattle.inode_table.specs.Dirs.{Homes, Covers, IsLive, is_known, leaves_of}
-
--- a search finds a value of which P holds, and nothing exactly where P holds of none
-abbrev pub FindsAny : {X : Type 0} → (X → Type 0) → Option X → Type 0
-FindsAny {X} P None = (x : X) → P x → ⊥
-FindsAny {X} P (Some x) = P x
 
 -- the subtree roots, each with its rank
 abbrev pub Roots : Type 0

@@ -2,8 +2,9 @@
 ghost use Rattle.std.specs.Prelude.{◌≡◌, ◌↔◌, true, false, None, Some, IsTrue, MatchOption};
 ghost use Rattle.std.specs.Option.{option_copied};
 ghost use Rattle.std.specs.FinMap as map;
+ghost use Rattle.mds_types.specs.Leaf.{Leaf};
 ghost use Rattle.inode_table.specs.Dirs.{IsLive, is_known};
-ghost use Rattle.subtree_map.specs.Authority.{FindsAny, HasAuthority, HoldsDentry, LocatesLeaf, IsSubtrees, NearestRoot};
+ghost use Rattle.subtree_map.specs.Authority.{HasAuthority, HoldsDentry, LocatesLeaf, IsSubtrees, NearestRoot};
 ghost use Rattle.mds_types.specs.declared.ids.Rank.{Rank as RankNumber};
 ghost use Rattle.subtree_map.specs.Climb.{FindsAbove, FindsRow, IsTop};
 
@@ -43,7 +44,9 @@ impl Subtrees {
 
     /// The authority of a leaf, of whatever map and fragment: none where no root is on the way up. Takes no memory.
     pub fn find_authority(&self, dirs: &Dirs, dir: Ino, frag: Frag) -> Option<Rank>
-        ensures { FindsAny (HasAuthority self.now.roots dirs.now.homes dirs.now.trees (dir, frag)) result }
+        ensures { MatchOption result
+            ((rank : RankNumber) → HasAuthority self.now.roots dirs.now.homes dirs.now.trees (dir, frag) rank → ⊥)
+            (HasAuthority self.now.roots dirs.now.homes dirs.now.trees (dir, frag)) }
     {
         let (_, rank) = self.climb(dirs, (dir, frag), dirs.get(dir), &None)?;
         Some(rank)
@@ -51,7 +54,9 @@ impl Subtrees {
 
     /// The nearest root of a leaf, of whatever map and fragment: none where no root is on the way up. Takes no memory.
     pub fn find_root(&self, dirs: &Dirs, dir: Ino, frag: Frag) -> Option<(Ino, Frag)>
-        ensures { FindsAny (NearestRoot self.now.roots dirs.now.homes dirs.now.trees (dir, frag)) result }
+        ensures { MatchOption result
+            ((root : Leaf) → NearestRoot self.now.roots dirs.now.homes dirs.now.trees (dir, frag) root → ⊥)
+            (NearestRoot self.now.roots dirs.now.homes dirs.now.trees (dir, frag)) }
     {
         let (root, _) = self.climb(dirs, (dir, frag), dirs.get(dir), &None)?;
         Some(root)
@@ -60,7 +65,9 @@ impl Subtrees {
     /// The same as `find_root`, where a rank asks: it looks into its own list first, and takes a hint of it where the
     /// rank that the hint names has that root. Takes no memory.
     pub fn find_root_by(&self, rank: Rank, dirs: &Dirs, dir: Ino, frag: Frag) -> Option<(Ino, Frag)>
-        ensures { FindsAny (NearestRoot self.now.roots dirs.now.homes dirs.now.trees (dir, frag)) result }
+        ensures { MatchOption result
+            ((root : Leaf) → NearestRoot self.now.roots dirs.now.homes dirs.now.trees (dir, frag) root → ⊥)
+            (NearestRoot self.now.roots dirs.now.homes dirs.now.trees (dir, frag)) }
     {
         let (root, _) = self.climb(dirs, (dir, frag), dirs.get(dir), &Some(rank))?;
         Some(root)
