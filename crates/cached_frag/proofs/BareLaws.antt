@@ -66,7 +66,7 @@ module _ (base : Base) (generation : ℕ) (f : Cached) (is : nameless base gener
       let none : (q : List ℕ) → map.get names q ≡ None = λ q. ap (λ (n : Names). map.get n q) (empty_of_len names few) ∙ get-empty key_cmp q in
       record {
         dirty = λ q. sym (ap (λ (r : Option Inode). marked_as version r (map.get f.dirty q)) (none q));
-        shown_names = λ q. sym (ap (λ (r : Option Inode). shown_as r (map.get (shown_names f) q)) (none q));
+        shown = λ q. sym (ap (λ (r : Option Inode). shown_as r (map.get (shown_names f) q)) (none q));
         room = omega (arith, few);
         same = refl;
       }

@@ -21,6 +21,6 @@ taken_in f mid now names all version same is j =
     let places : mid.places ≡ f.places = ap (λ (g : Cached). g.places) same in
     record {
       dirty = λ q. j.dirty q ∙ ap (λ (n : Names). marked_as version (map.get n q) (map.get mid.dirty q)) is ∙ ap (λ (g : Cached). marked_as version (map.get all q) (map.get g.dirty q)) same;
-      shown_names = λ q. j.shown q ∙ ap (λ (n : Names). shown_as (map.get n q) (map.get (shown_names mid) q)) is ∙ ap (λ (g : Cached). shown_as (map.get all q) (map.get (shown_names g) q)) same;
+      shown = λ q. j.shown q ∙ ap (λ (n : Names). shown_as (map.get n q) (map.get (shown_names mid) q)) is ∙ ap (λ (g : Cached). shown_as (map.get all q) (map.get (shown_names g) q)) same;
       same = j.same ∙ (λ i. record { base = base i; generation = generation i; clean = clean i; dirty = now.dirty; room = now.room; places = places i });
     }

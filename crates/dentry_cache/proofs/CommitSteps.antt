@@ -12,7 +12,7 @@ settled_of names version f m now same s =
       based = s.based;
       generation = s.generation ∙ ap (λ (c : Cached). c.generation) same;
       dirty = s.dirty ∙ ap (λ (c : Cached). unsettled c.dirty names) same;
-      shown_names = s.shown ∙ ap (λ (c : Cached). shown_names c) same;
+      shown = s.shown ∙ ap (λ (c : Cached). shown_names c) same;
     }
 
 -- a fragment that was brought to the front, and got room for names that become clean

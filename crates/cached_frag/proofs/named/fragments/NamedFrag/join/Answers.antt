@@ -24,7 +24,7 @@ loop-pair-preserved c =
     let less : c.put.new.self.room + 1 ≡ c.loop-pair.self.room = room_step _ _ c.in-Some.pair there c.in-Some.ensures.removed c.loop-pair.self c.put.new.self c.args.version c.put.ensures.marked some in
     record {
       dirty = λ q. dirty_step _ _ c.in-Some.pair there c.in-Some.ensures.removed c.loop-pair.self c.put.new.self c.args.version c.put.ensures.marked q ∙ c.loop-pair.invariant.dirty q;
-      shown_names = λ q. shown_step _ _ c.in-Some.pair there c.in-Some.ensures.removed c.loop-pair.self c.put.new.self c.args.version c.put.ensures.marked q ∙ c.loop-pair.invariant.shown q;
+      shown = λ q. shown_step _ _ c.in-Some.pair there c.in-Some.ensures.removed c.loop-pair.self c.put.new.self c.args.version c.put.ensures.marked q ∙ c.loop-pair.invariant.shown q;
       same = same_step _ _ c.in-Some.pair there c.in-Some.ensures.removed c.loop-pair.self c.put.new.self c.args.version c.put.ensures.marked c.args.self.now c.loop-pair.invariant.same;
       room = omega (arith, one, less, c.loop-pair.invariant.room);
       few = omega (arith, one, less, c.loop-pair.invariant.few);
@@ -37,7 +37,7 @@ returns c =
     let zero : map.len (contents key_cmp c.loop-pair.names) ≡ 0 = none_len _ _ c.in_default.is c.pop_first.ensures.value in
     record {
       dirty = λ q. sym (ap (λ (r : Option Inode). marked_as c.args.version r (map.get c.loop-pair.self.dirty q)) (none q)) ∙ c.loop-pair.invariant.dirty q;
-      shown_names = λ q. sym (ap (λ (r : Option Inode). shown_as r (map.get (shown_names c.loop-pair.self) q)) (none q)) ∙ c.loop-pair.invariant.shown q;
+      shown = λ q. sym (ap (λ (r : Option Inode). shown_as r (map.get (shown_names c.loop-pair.self) q)) (none q)) ∙ c.loop-pair.invariant.shown q;
       room = omega (arith, zero, c.loop-pair.invariant.room);
       same = c.loop-pair.invariant.same;
     }
