@@ -3,7 +3,6 @@ use Rattle.mdcache.proofs.Common.{Base, CommitsWhole, EndsJobOf, Err, HasSpelled
 use Rattle.std.specs.FinMap as map
 use Rattle.mds_types.proofs.LeafLaws.{get_left, get_removed, same_or_apart}
 use Rattle.objstore.specs.Objects.{written}
-use Rattle.dentry_cache.specs.Cache.{leaf_cmp}
 use Rattle.mdcache.specs.Commits.{leaf_of_job}
 use Rattle.mdcache.specs.Shown.{names_of}
 use Rattle.mdcache.proofs.AtHandLaws.{ended_are_clean}
