@@ -1,9 +1,8 @@
 -- A directory that goes has no leaf but those that a rank may change, where these inherit what the leaf of its name has.
-use Rattle.cluster_core.proofs.Common.{Bool, Carries, Change, Covers, Dentry, Homes, Ino, Inode, IsFrozen, HoldsAt, Leaf, List, MayTouchEach, MayTouchIn, None, Option, Pin, Rank, Roots, Rules, Some, Spot, Standing, Tree, ap, cond, dentry_at, directory_at, directory_gone, false, get-empty, holding, IfSome, in_directory, inl, is_dir_kind, is_some, leaf_cmp, leaf_of, leaves_gone, leaves_of, not_none, refl, same_Some, subst, sym, thawed_rules, true, ℕ, ◌∙◌, ◌≡◌}
+use Rattle.cluster_core.proofs.Common.{Bool, Carries, Change, Covers, Dentry, Homes, IfSome, Ino, Inode, IsAtHolder, IsAuthority, IsFrozenAt, Leaf, MayTouch, MayTouchEach, None, Option, Rank, Request, Some, Spot, Standing, State, Tree, ap, cond, dentry_at, directory_at, directory_gone, false, get-empty, in_directory, inl, is_dir_kind, is_some, leaf_cmp, leaf_of, leaves_gone, leaves_of, not_none, refl, same_Some, subst, sym, thawed_rules, true, ◌∙◌, ◌≡◌}
 use Rattle.std.specs.FinMap as map
 use Rattle.cluster_core.proofs.GrantLaws.{of_each}
 use Rattle.inode_table.specs.TreeTable.{HoldsHomes, home_at}
-use Rattle.mdcache.specs.State.{State as TreeState}
 use Rattle.namespace_ops.specs.Changes.{IsSpot}
 use Rattle.ranked_tree.specs.Subtrees.{Inherits}
 use Rattle.subtree_map.specs.Authority.{inherited as up}
@@ -32,11 +31,11 @@ removed_from tree covers change spot dir carries takes puts gone = (
     none None is = refl
     none (Some put) is = let clash : true ≡ false = is in cc
 
-module _ (tree : TreeState) (roots : Roots) (exports : Standing) (pins : List Pin) (rank : Rank) (client tid : ℕ) where
-  pub along : (dir : Ino) (spot : Spot) → Inherits roots exports dir → map.get tree.homes dir.0 ≡ Some (home_at (dentry_at spot)) → IsSpot tree.covers spot → HoldsAt tree (holding exports roots) spot.at → spot.at.rank ≡ rank
-      → MayTouchEach tree roots exports pins rank client tid (leaves_gone tree.covers (Some dir))
+module _ (state : State) (rank : Rank) (request : Request) where
+  pub along : (dir : Ino) (spot : Spot) → Inherits state.roots state.exports dir → map.get state.tree.homes dir.0 ≡ Some (home_at (dentry_at spot)) → IsSpot state.tree.covers spot → IsAtHolder state spot.at → spot.at.rank ≡ rank
+      → MayTouchEach state rank request (leaves_gone state.tree.covers (Some dir))
   along dir spot inherits home pick held same =
-      of_each dir.0 (MayTouchIn tree roots exports pins rank client tid) (leaves_of tree.covers dir.0) (λ g has. (
+      of_each dir.0 (MayTouch state rank request) (leaves_of state.tree.covers dir.0) (λ g has. (
         thawed (in_directory dir.0 g),
         inl (record {
           root = mine.root;
@@ -45,8 +44,8 @@ module _ (tree : TreeState) (roots : Roots) (exports : Standing) (pins : List Pi
         }),
       ))
     where
-      thawed : (leaf : Leaf) → IsFrozen exports roots tree.homes tree.covers leaf → ⊥
+      thawed : (leaf : Leaf) → IsFrozenAt state leaf → ⊥
       thawed leaf frozen = not_none _ frozen.export (ap (λ (e : Standing). map.get e frozen.root) inherits.0 ∙ get-empty leaf_cmp frozen.root) frozen.stands
 
-      mine : Rules tree roots (leaf_of spot.at) rank
-      mine = subst (Rules tree roots (leaf_of spot.at)) same (thawed_rules exports roots tree.homes tree.covers (leaf_of spot.at) spot.at.rank (thawed (leaf_of spot.at)) held)
+      mine : IsAuthority state (leaf_of spot.at) rank
+      mine = subst (IsAuthority state (leaf_of spot.at)) same (thawed_rules state.exports state.roots state.tree.homes state.tree.covers (leaf_of spot.at) spot.at.rank (thawed (leaf_of spot.at)) held)

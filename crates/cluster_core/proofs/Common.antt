@@ -2,13 +2,13 @@
 pub use Rattle.cached_frag.specs.Cached.{Cached}
 pub use Rattle.cached_frag.specs.declared.jobs.Job.{Job}
 pub use Rattle.cluster_core.specs.Administers.{Administers, AdministersTree, BeginsAt, BeginsCommit, EvictsOne, HoldsInside, IsAnyPinned, IsUnseen, Merges, MergesLeaves, Splits, SplitsLeaf, told_nothing, told_job}
-pub use Rattle.cluster_core.specs.Asked.{IsAsked, IsNewTo, IsSessionOf, MayApply}
+pub use Rattle.cluster_core.specs.Asked.{AreLocatedIn, IsAsked, IsNewTo, IsSessionOf, MayApply}
 pub use Rattle.cluster_core.specs.Commits.{JobsKeepObjects, JobsTakeWhatIsShown}
 pub use Rattle.cluster_core.specs.Exporting.{CancelsAt, Exports, FinishesIn, FreezesIn, HasPinnedUnder, ImportsExport, IsUnseenStep, KeepsTreeAndRoots, PrepsIn, SendsExport, StartsIn}
 pub use Rattle.cluster_core.specs.Flush.{KeepsCore}
 pub use Rattle.cluster_core.specs.Fragments.{LieAtHolder}
 pub use Rattle.cluster_core.specs.Grants.{AreHeldAmong, AreThawedEach, FindsNone, GrantsFirst, GrantsWaiting, HoldsOne, IsGranted, IsOneFrozen, with_grants}
-pub use Rattle.cluster_core.specs.Master.{AreMastersThere, IsFrozenAt, IsHolder, IsMasterIn, LacksOneOf, MayTouchAllIn, MayTouchEach, MayTouchIn, MustWaitIn, grant_of, leaf_at, main_leaf}
+pub use Rattle.cluster_core.specs.Master.{AreMastersThere, IsAtHolder, IsAuthority, IsCheckedIn, IsFrozenAt, IsHolder, IsMaster, IsMasterIn, LacksOneOf, MayTouch, MayTouchAll, MayTouchEach, MustWait, grant_of, leaf_at, main_leaf, would_change}
 pub use Rattle.cluster_core.specs.Mounted.{MountsCore}
 pub use Rattle.cluster_core.specs.Offer.{after_taking}
 pub use Rattle.cluster_core.specs.Pins.{HasPin, inherited, own}
@@ -21,7 +21,7 @@ pub use Rattle.cluster_core.specs.Opening.{IsGiven, IsLawfulFrom, IsLegalFrom, I
 pub use Rattle.cluster_core.specs.Serve.{AppliesRequest, AtFront, CarryLeaves, FollowPlanned, ForwardsTo, HasLeft, IsApplied, IsDeferred, IsForwarded, IsLeft, IsNoted, IsRepeated, IsTakenOut, LeavesRefused, MakesPlanned, RefusesRequest, Repeats, Replies, ServesInbox, ServesRequest, entry_of, number_taken, outcome_of, went_with, with_entry, without_gone, without_request}
 pub use Rattle.cluster_core.specs.Settled.{AreSettled, IsAway, IsCalm, IsCalmIn, IsCalmOp, HasSettled, KeepsSettled}
 pub use Rattle.cluster_core.specs.Sound.{AreCached, AreExported, AreRanks, AreSupplied, IsFresh, IsSound, IsSoundBehind, IsSoundBook, IsSoundKept, IsSoundWith, IsSupplied, StandsBehind}
-pub use Rattle.cluster_core.specs.State.{BookState, Core, KeptState, State, core_of, new_state, no_supply, places_of, shown, state_of, supply_of, whole_of, whole_supplies, with_sessions}
+pub use Rattle.cluster_core.specs.State.{BookState, Core, KeptState, State, cluster_of, core_of, new_state, no_supply, places_of, shown, state_of, supply_of, whole_of, whole_supplies, with_sessions}
 pub use Rattle.cluster_core.specs.Steps.{ArrivesAt, Does, TreeMayRefuse, Steps}
 pub use Rattle.cluster_core.specs.Uses.{Asks, ChangesOp, ReadsOp, UsesApplied, UsesFront, UsesRequest, UsesStep}
 pub use Rattle.cluster_core.specs.declared.applying.Prepared.{Prepared}

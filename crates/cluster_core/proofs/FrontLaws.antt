@@ -1,5 +1,5 @@
 -- Laws of the request at the front of a rank's inbox.
-use Rattle.cluster_core.proofs.Common.{AtFront, List, None, Request, Some, [], same_Some, slice_get, subst, ◌∷◌, ◌≡◌}
+use Rattle.cluster_core.proofs.Common.{AreSetAside, AtFront, Entry, IsTableOf, List, None, Request, Some, Table, [], same_Some, slice_get, subst, ◌++◌, ◌∷◌, ◌≡◌}
 
 -- what holds wherever the front is this request
 pub at_front : (P : List Request → Type 0) (q : Request) (w : List Request) → Some q ≡ slice_get w 0 → ((rest : List Request) → P (q ∷ rest)) → P w
@@ -23,3 +23,8 @@ by_front P Known (q ∷ rest) go known = go q rest known
 pub both_front : (Known More Holds : Request → List Request → Type 0) (w : List Request) → ((q : Request) (rest : List Request) → Known q rest → More q rest → Holds q rest) → AtFront Known w → AtFront More w → AtFront Holds w
 both_front Known More Holds [] go known more = absurd known
 both_front Known More Holds (q ∷ rest) go known more = go q rest known more
+
+-- what was seen of it behind any past, over a slice of the entries that aren't forgotten
+pub seen_behind : (Seen : List Entry → Type 0) (sessions : Table) (slice items : List Entry) → slice ≡ items → ((past : List Entry) → IsTableOf (past ++ slice) sessions → AreSetAside past slice sessions → Seen (past ++ slice))
+    → (past : List Entry) → IsTableOf (past ++ items) sessions → AreSetAside past items sessions → Seen (past ++ items)
+seen_behind Seen sessions slice items same seen = subst (λ (h : List Entry). (past : List Entry) → IsTableOf (past ++ h) sessions → AreSetAside past h sessions → Seen (past ++ h)) same seen

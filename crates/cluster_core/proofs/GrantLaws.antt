@@ -1,10 +1,11 @@
 -- Whether a rank may change the leaves of a change, from leaf to leaf.
-use Rattle.cluster_core.proofs.Common.{Bool, Carries, Change, Contains, Contains-from_range, Covers, Dentry, Dirfrag, Fragment, HasLeaf, HoldsAt, IfSome, Ino, Inode, IsFragment, IsFrozen, IsPick, IsTree, IsTrue, LacksOneOf, List, MatchBool, MayTouchEach, MayTouchIn, None, Option, Pin, Rank, Roots, Some, Spot, Standing, Tree, [], arith, cases_lt, cond, contains_start, dentry_at, directory_at, directory_gone, ends_low, entry_stands, false, first, first_or_later, grant_of, holding, in_directory, inl, inr, is_dir_kind, is_directory, is_fragment, is_same_grant, later, leaf_of, list_any, map, none_in, one_authority, range_from_Contains, refl, span, subst, sym, thawed_rules, true, ℕ, ◌%◌, ◌++◌, ◌+◌, ◌<◌, ◌^◌, ◌↔◌, ◌∙◌, ◌∷◌, ◌≡◌, ◌≤◌, ◌⊎◌}
+use Rattle.cluster_core.proofs.Common.{Answers, Bool, Carries, Change, Checks, Contains, Contains-from_range, Covers, Dentry, Dirfrag, Fragment, HasLeaf, IfSome, Ino, Inode, IsAtHolder, IsAuthority, IsFragment, IsFrozenAt, IsPick, IsTree, IsTrue, LacksOneOf, List, MatchBool, MayTouch, MayTouchAll, MayTouchEach, None, Option, Rank, Request, Some, Spot, State, Tree, [], arith, cases_lt, cond, contains_start, dentry_at, directory_at, directory_gone, ends_low, entry_stands, false, first, first_or_later, grant_of, in_directory, inl, inr, is_dir_kind, is_directory, is_fragment, is_same_grant, later, leaf_of, list_any, map, none_in, one_authority, range_from_Contains, refl, shown, span, step, subst, sym, thawed_rules, true, ℕ, ◌%◌, ◌++◌, ◌+◌, ◌<◌, ◌^◌, ◌↔◌, ◌∙◌, ◌∷◌, ◌≡◌, ◌≤◌, ◌⊎◌}
+use Rattle.mds_types.specs.declared.replies.Reply.{Reply as Replied}
+use Rattle.cluster_core.proofs.Idle.{idle_fragments}
 use Rattle.std.specs.FinMap as map_of
 use Rattle.mds_types.specs.Frag.{Contains as ContainsHash}
 use Rattle.subtree_map.specs.Authority.{Leaf}
 use Rattle.subtree_map.proofs.Covers.{one_leaf}
-use Rattle.mdcache.specs.State.{State as TreeState}
 
 -- the directory that goes with a change stands
 pub gone_stands : (tree : Tree) (covers : Covers) (change : Change) → Carries tree covers change → IfSome change.gone (λ dir. is_directory tree dir.0 ≡ true)
@@ -45,54 +46,53 @@ in_either (x ∷ xs) ys leaf has = elim (first_or_later x leaf (xs ++ ys) has) [
   ]
 ]
 
-module _ (tree : TreeState) (roots : Roots) (exports : Standing) (pins : List Pin) (rank : Rank) (client tid : ℕ) where
-  abbrev IsFrozenHere : Dirfrag → Type 0
-  IsFrozenHere at = IsFrozen exports roots tree.homes tree.covers (leaf_of at)
-
+module _ (state : State) (rank : Rank) (request : Request) where
   -- a leaf that isn't frozen is held by its authority
-  rules_at : (at : Dirfrag) → (IsFrozenHere at → ⊥) → HoldsAt tree (holding exports roots) at → HoldsAt tree roots at
-  rules_at at thawed held = thawed_rules exports roots tree.homes tree.covers (leaf_of at) at.rank thawed held
+  rules_at : (at : Dirfrag) → (IsFrozenAt state (leaf_of at) → ⊥) → IsAtHolder state at → IsAuthority state (leaf_of at) at.rank
+  rules_at at thawed held = thawed_rules state.exports state.roots state.tree.homes state.tree.covers (leaf_of at) at.rank thawed held
 
   -- a rank may change one that it holds,
-  pub by_holding : (at : Dirfrag) → (IsFrozenHere at → ⊥) → HoldsAt tree (holding exports roots) at → at.rank ≡ rank → MayTouchIn tree roots exports pins rank client tid (leaf_of at)
-  by_holding at thawed held same = (thawed, inl (subst (λ (r : Rank). HoldsAt tree roots (record { dir = at.dir; frag = at.frag; rank = r })) same (rules_at at thawed held)))
+  pub by_holding : (at : Dirfrag) → (IsFrozenAt state (leaf_of at) → ⊥) → IsAtHolder state at → at.rank ≡ rank → MayTouch state rank request (leaf_of at)
+  by_holding at thawed held same = (thawed, inl (subst (IsAuthority state (leaf_of at)) same (rules_at at thawed held)))
 
   -- and otherwise one that is granted
-  pub by_grant : (at : Dirfrag) (granted : Bool) → (IsFrozenHere at → ⊥) → HoldsAt tree (holding exports roots) at → (at.rank ≡ rank → ⊥) → granted ≡ list_any (is_same_grant (grant_of (leaf_of at) client tid)) pins
-      → IsTrue granted ↔ MayTouchIn tree roots exports pins rank client tid (leaf_of at)
+  pub by_grant : (at : Dirfrag) (granted : Bool) → (IsFrozenAt state (leaf_of at) → ⊥) → IsAtHolder state at → (at.rank ≡ rank → ⊥) → granted ≡ list_any (is_same_grant (grant_of (leaf_of at) request.client request.tid)) state.pins
+      → IsTrue granted ↔ MayTouch state rank request (leaf_of at)
   by_grant at granted thawed held other is = (λ told. (thawed, inr (sym is ∙ told)), λ may. go may.1)
     where
-      go : HoldsAt tree roots (record { dir = at.dir; frag = at.frag; rank = rank }) ⊎ (list_any (is_same_grant (grant_of (leaf_of at) client tid)) pins ≡ true) → IsTrue granted
-      go (inl rules) = absurd (other (one_authority roots tree.homes tree.covers (leaf_of at) at.rank rank (rules_at at thawed held) rules))
+      go : IsAuthority state (leaf_of at) rank ⊎ (list_any (is_same_grant (grant_of (leaf_of at) request.client request.tid)) state.pins ≡ true) → IsTrue granted
+      go (inl rules) = absurd (other (one_authority state.roots state.tree.homes state.tree.covers (leaf_of at) at.rank rank (rules_at at thawed held) rules))
       go (inr pinned) = is ∙ pinned
 
   -- one that is frozen it may not
-  pub by_frozen : (at : Dirfrag) → IsFrozenHere at → IsTrue false ↔ MayTouchIn tree roots exports pins rank client tid (leaf_of at)
+  pub by_frozen : (at : Dirfrag) → IsFrozenAt state (leaf_of at) → IsTrue false ↔ MayTouch state rank request (leaf_of at)
   by_frozen at frozen = (λ told. let clash : false ≡ true = told in cc, λ may. absurd (may.0 frozen))
 
   -- the first of two lists decides where one of its leaves may not be changed, and the other where each may
-  pub lacks_left : (xs ys : List Leaf) → LacksOneOf tree roots exports pins rank client tid xs → LacksOneOf tree roots exports pins rank client tid (xs ++ ys)
+  pub lacks_left : (xs ys : List Leaf) → LacksOneOf state rank request xs → LacksOneOf state rank request (xs ++ ys)
   lacks_left xs ys one = record { leaf = one.leaf; changes = in_left xs ys one.leaf one.changes; barred = one.barred }
 
-  pub lacks_right : (xs ys : List Leaf) → LacksOneOf tree roots exports pins rank client tid ys → LacksOneOf tree roots exports pins rank client tid (xs ++ ys)
+  pub lacks_right : (xs ys : List Leaf) → LacksOneOf state rank request ys → LacksOneOf state rank request (xs ++ ys)
   lacks_right xs ys one = record { leaf = one.leaf; changes = in_right xs ys one.leaf one.changes; barred = one.barred }
 
-  pub others_decide : (xs ys : List Leaf) (lacks : Bool) → MayTouchEach tree roots exports pins rank client tid xs
-      → MatchBool lacks (LacksOneOf tree roots exports pins rank client tid ys) (MayTouchEach tree roots exports pins rank client tid ys)
-      → MatchBool lacks (LacksOneOf tree roots exports pins rank client tid (xs ++ ys)) (MayTouchEach tree roots exports pins rank client tid (xs ++ ys))
+  pub others_decide : (xs ys : List Leaf) (lacks : Bool) → MayTouchEach state rank request xs → MatchBool lacks (LacksOneOf state rank request ys) (MayTouchEach state rank request ys)
+      → MatchBool lacks (LacksOneOf state rank request (xs ++ ys)) (MayTouchEach state rank request (xs ++ ys))
   others_decide xs ys true may one = lacks_right xs ys one
   others_decide xs ys false may each = λ leaf has. elim (in_either xs ys leaf has) [
     | inl here ↦ may leaf here
     | inr there ↦ each leaf there
   ]
 
-  pub none_lacks : MayTouchEach tree roots exports pins rank client tid []
+  pub none_lacks : MayTouchEach state rank request []
   none_lacks leaf has = absurd (none_in leaf has)
 
-  pub only_one : (leaf : Leaf) (may : Bool) → (IsTrue may ↔ MayTouchIn tree roots exports pins rank client tid leaf)
-      → MatchBool may (MayTouchEach tree roots exports pins rank client tid (leaf ∷ [])) (LacksOneOf tree roots exports pins rank client tid (leaf ∷ []))
+  -- where the checks found a reply alone, the operation changes nothing
+  pub idle_may : (n : ℕ) (said : Replied) → Checks (shown state) state.tree.covers (IsAtHolder state) request.op n (step state.tree.limit (shown state) request.op n) (Answers said) → MayTouchAll state rank request
+  idle_may n said told = subst (MayTouchEach state rank request) (sym (idle_fragments state.tree.limit state.tree.covers (shown state) request.op n said told.0 told.1)) none_lacks
+
+  pub only_one : (leaf : Leaf) (may : Bool) → (IsTrue may ↔ MayTouch state rank request leaf) → MatchBool may (MayTouchEach state rank request (leaf ∷ [])) (LacksOneOf state rank request (leaf ∷ []))
   only_one leaf true told = λ other has. elim (first_or_later leaf other [] has) [
-    | inl same ↦ subst (MayTouchIn tree roots exports pins rank client tid) same (told.0 refl)
+    | inl same ↦ subst (MayTouch state rank request) same (told.0 refl)
     | inr more ↦ absurd (none_in other more)
   ]
   only_one leaf false told = record { leaf = leaf; changes = first leaf []; barred = λ may. let clash : false ≡ true = told.1 may in cc }

@@ -1,10 +1,11 @@
 -- What was found and why a request isn't made ready, said of the tree before its checks or after them.
-use Rattle.cluster_core.proofs.Common.{Bool, Change, Checked, Checks, Dirfrag, Err, HoldsAt, Ino, IsAsked, IsChangeOf, IsChecked, KeepsRanked, LacksNumber, List, MatchBool, MayTouchAllIn, MustWaitIn, NoMemory, None, Op, Option, Outcome, Pin, Rank, Ranked, Refusal, Request, Roots, Some, Standing, Supply, WhyUnprepared, ap, because, faults_in, held_roots, held_still, inl, inr, keeps_itself, keeps_refused, refl, shown_tree, step, subst, sym, where_refused, ℕ, ◌∙◌, ◌≡◌, ◌⊎◌}
+use Rattle.cluster_core.proofs.Common.{Change, Checked, Checks, Dirfrag, Err, Ino, IsAsked, IsAtHolder, IsChangeOf, IsChecked, KeepsRanked, LacksNumber, NoMemory, None, Op, Option, Outcome, Ranked, Refusal, Request, Some, State, WhyUnprepared, ap, because, cluster_of, faults_in, held_roots, inl, inr, keeps_itself, keeps_refused, refl, shown, shown_tree, step, subst, sym, table, where_refused, ℕ, ◌∙◌, ◌≡◌, ◌⊎◌}
 use Rattle.dentry_cache.specs.Reads.Reads.{stays}
 use Rattle.sessions.specs.Rooms.{HeldSessions}
 use Rattle.cluster_core.specs.declared.parts.Asked.{Asked}
+use Rattle.cluster_core.specs.declared.parts.Given.{Given}
+use Rattle.cluster_core.specs.declared.parts.Parts.{Parts}
 use Rattle.mdcache.specs.Core.{state_of as tree_state}
-use Rattle.mdcache.specs.State.{State}
 use Rattle.ranked_tree.specs.Changing.{ChangesHeld, FollowsChange}
 use Rattle.ranked_tree.specs.Ranked.{MayRefuse}
 
@@ -41,26 +42,28 @@ unmade old new op change one reason outcome offered changed followed stand = rec
   because = inr (inr (because old new op change one (Err reason) changed));
 }
 
+-- reads for an operation leave the state of the cluster as it was, and so does room that is made
+pub kept_state : {S : Type 0} → (parts : Parts S) (tree : Ranked) (given : Given) (op : Op) (told : Option Refusal) → KeepsRanked parts.tree tree op told → given.numbers.items ≡ parts.given.numbers.items → table given.sessions ≡ table parts.given.sessions
+    → (cluster_of (record parts { tree = tree; given = given })).state ≡ (cluster_of parts).state
+kept_state parts tree given op told kept numbers sessions = λ i. record (cluster_of parts).state {
+  tree = kept.tree.state i;
+  roots = kept.roots i;
+  exports = kept.exports i;
+  numbers = numbers i;
+  sessions = sessions i;
+}
+
+pub only_read : {S : Type 0} → (parts : Parts S) (tree : Ranked) (op : Op) (told : Option Refusal) → KeepsRanked parts.tree tree op told → (cluster_of (record parts { tree = tree })).state ≡ (cluster_of parts).state
+only_read parts tree op told kept = kept_state parts tree parts.given op told kept refl refl
+
 -- what was found of a request at its master is still so after reads
-pub asked_later : (f g : State) (roots now : Roots) (numbers : List Supply) (sessions : HeldSessions) (asked : Asked) (request : Request) → g ≡ f → now ≡ roots → IsAsked f roots numbers sessions asked request → IsAsked g now numbers sessions asked request
-asked_later f g roots now numbers sessions asked request follows rooted h =
-    subst (λ (s : State). IsAsked s now numbers sessions asked request) (sym follows) (subst (λ (r : Roots). IsAsked f r numbers sessions asked request) (sym rooted) h)
+pub asked_later : (old mid : State) (sessions : HeldSessions) (asked : Asked) (request : Request) → mid ≡ old → IsAsked old sessions asked request → IsAsked mid sessions asked request
+asked_later old mid sessions asked request same h = subst (λ (s : State). IsAsked s sessions asked request) (sym same) h
 
 -- the checks find the same after reads
-pub checked_later : (old mid : Ranked) (op : Op) (limit later n m : ℕ) (found : Checked) → KeepsRanked old mid op None → limit ≡ later → n ≡ m
-    → Checks (shown_tree (tree_state old.tree)) old.tree.covers (HoldsAt (tree_state old.tree) (held_roots old)) op n (step limit (shown_tree (tree_state old.tree)) op n) found
-    → Checks (shown_tree (tree_state mid.tree)) mid.tree.covers (HoldsAt (tree_state mid.tree) (held_roots mid)) op m (step later (shown_tree (tree_state mid.tree)) op m) found
-checked_later old mid op limit later n m found kept same number checks =
-    subst (λ (r : Roots). Checks (shown_tree (tree_state mid.tree)) mid.tree.covers (HoldsAt (tree_state mid.tree) r) op m (step later (shown_tree (tree_state mid.tree)) op m) found) (sym (held_still old mid op None kept))
-    (subst (λ (s : State). Checks (shown_tree s) s.covers (HoldsAt s (held_roots old)) op m (step later (shown_tree s) op m) found) (sym kept.tree.state)
-    (subst (λ k. Checks (shown_tree (tree_state old.tree)) old.tree.covers (HoldsAt (tree_state old.tree) (held_roots old)) op k (step later (shown_tree (tree_state old.tree)) op k) found) number
-    (subst (λ l. Checks (shown_tree (tree_state old.tree)) old.tree.covers (HoldsAt (tree_state old.tree) (held_roots old)) op n (step l (shown_tree (tree_state old.tree)) op n) found) same checks)))
-
--- a request has to wait after reads exactly where it had to before
-pub waits_before : (old mid : Ranked) (pins : List Pin) (rank : Rank) (client tid : ℕ) (op : Op) (waits : Bool) → KeepsRanked old mid op None
-    → MatchBool waits (MustWaitIn (tree_state mid.tree) mid.subtrees.roots mid.exports pins rank client tid op) (MayTouchAllIn (tree_state mid.tree) mid.subtrees.roots mid.exports pins rank client tid op)
-    → MatchBool waits (MustWaitIn (tree_state old.tree) old.subtrees.roots old.exports pins rank client tid op) (MayTouchAllIn (tree_state old.tree) old.subtrees.roots old.exports pins rank client tid op)
-waits_before old mid pins rank client tid op waits kept found =
-    subst (λ (e : Standing). MatchBool waits (MustWaitIn (tree_state old.tree) old.subtrees.roots e pins rank client tid op) (MayTouchAllIn (tree_state old.tree) old.subtrees.roots e pins rank client tid op)) kept.exports
-    (subst (λ (r : Roots). MatchBool waits (MustWaitIn (tree_state old.tree) r mid.exports pins rank client tid op) (MayTouchAllIn (tree_state old.tree) r mid.exports pins rank client tid op)) kept.roots
-    (subst (λ (s : State). MatchBool waits (MustWaitIn s mid.subtrees.roots mid.exports pins rank client tid op) (MayTouchAllIn s mid.subtrees.roots mid.exports pins rank client tid op)) kept.tree.state found))
+pub checked_later : (old mid : State) (op : Op) (limit later n m : ℕ) (found : Checked) → mid ≡ old → limit ≡ later → n ≡ m → Checks (shown old) old.tree.covers (IsAtHolder old) op n (step limit (shown old) op n) found
+    → Checks (shown mid) mid.tree.covers (IsAtHolder mid) op m (step later (shown mid) op m) found
+checked_later old mid op limit later n m found same limits number checks =
+    subst (λ (s : State). Checks (shown s) s.tree.covers (IsAtHolder s) op m (step later (shown s) op m) found) (sym same)
+    (subst (λ k. Checks (shown old) old.tree.covers (IsAtHolder old) op k (step later (shown old) op k) found) number
+    (subst (λ l. Checks (shown old) old.tree.covers (IsAtHolder old) op n (step l (shown old) op n) found) limits checks))

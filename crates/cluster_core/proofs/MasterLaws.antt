@@ -1,5 +1,5 @@
 -- Which leaves an operation changes, and which of them a rank may change.
-use Rattle.cluster_core.proofs.Common.{AreHeldAmong, Bool, Contains, Covers, Dirfrag, Fragment, HoldsAt, IfSome, Ino, IsAt, IsMasterIn, IsPick, List, Lists, Located, Locates, Looks, Makes, MatchBool, MatchOption, Moves, None, Op, Option, Rank, Removes, Roots, Rules, Sets, Shape, Some, Tree, Unlinks, [], ap, arith, destination_in, destination_of, first, first_or_later, hash_at, in_directory, inl, inr, later, leaf_at, leaf_of, leaves_of, main_hash, main_in, main_leaf, pick_of, picked, refl, shape, shown_tree, subst, sym, ℕ, ◌↔◌, ◌∙◌, ◌∷◌, ◌≡◌}
+use Rattle.cluster_core.proofs.Common.{AreHeldAmong, Bool, Contains, Covers, Dirfrag, Fragment, HoldsAt, IfSome, Ino, IsAt, IsAuthority, IsMasterIn, IsPick, List, Lists, Located, Locates, Looks, Makes, MatchBool, MatchOption, Moves, None, Op, Option, Rank, Removes, Roots, Rules, Sets, Shape, Some, State, Tree, Unlinks, [], ap, arith, destination_in, destination_of, first, first_or_later, hash_at, in_directory, inl, inr, later, leaf_at, leaf_of, leaves_of, main_hash, main_in, main_leaf, pick_of, picked, refl, shape, shown_tree, subst, sym, ℕ, ◌↔◌, ◌∙◌, ◌∷◌, ◌≡◌}
 use Rattle.subtree_map.specs.Authority.{Leaf}
 use Rattle.mdcache.specs.State.{State as TreeState}
 
@@ -36,12 +36,12 @@ where_found tree covers Holds dir hash None h = tt
 where_found tree covers Holds dir hash (Some located) h = (dir, hash, h.at)
 
 -- those that are held among some leaves
-pub held_exactly : (tree : TreeState) (roots : Roots) (rank : Rank) (leaves held : List Leaf) → AreHeldAmong tree roots rank leaves held → (leaf : Leaf) → Contains held leaf ↔ (Contains leaves leaf × Rules tree roots leaf rank)
-held_exactly tree roots rank [] held none leaf = (λ has. absurd (not_in_none leaf (subst (λ o. Contains o leaf) none has)), λ w. absurd (not_in_none leaf w.0))
-held_exactly tree roots rank (one ∷ leaves) held (inl (mine, (rest, is, more))) leaf =
-    let others = held_exactly tree roots rank leaves rest more leaf in (
+pub held_exactly : (state : State) (rank : Rank) (leaves held : List Leaf) → AreHeldAmong state rank leaves held → (leaf : Leaf) → Contains held leaf ↔ (Contains leaves leaf × IsAuthority state leaf rank)
+held_exactly state rank [] held none leaf = (λ has. absurd (not_in_none leaf (subst (λ o. Contains o leaf) none has)), λ w. absurd (not_in_none leaf w.0))
+held_exactly state rank (one ∷ leaves) held (inl (mine, (rest, is, more))) leaf =
+    let others = held_exactly state rank leaves rest more leaf in (
       λ has. elim (first_or_later one leaf rest (subst (λ o. Contains o leaf) is has)) [
-        | inl same ↦ (subst (Contains (one ∷ leaves)) same (first one leaves), subst (λ (l : Leaf). Rules tree roots l rank) same mine)
+        | inl same ↦ (subst (Contains (one ∷ leaves)) same (first one leaves), subst (λ (l : Leaf). IsAuthority state l rank) same mine)
         | inr among ↦ let w = others.0 among in (later one leaf leaves w.0, w.1)
       ],
       λ w. subst (λ o. Contains o leaf) (sym is) (elim (first_or_later one leaf leaves w.0) [
@@ -49,11 +49,11 @@ held_exactly tree roots rank (one ∷ leaves) held (inl (mine, (rest, is, more))
         | inr among ↦ later one leaf rest (others.1 (among, w.1))
       ]),
     )
-held_exactly tree roots rank (one ∷ leaves) held (inr (foreign, more)) leaf =
-    let others = held_exactly tree roots rank leaves held more leaf in (
+held_exactly state rank (one ∷ leaves) held (inr (foreign, more)) leaf =
+    let others = held_exactly state rank leaves held more leaf in (
       λ has. let w = others.0 has in (later one leaf leaves w.0, w.1),
       λ w. elim (first_or_later one leaf leaves w.0) [
-        | inl same ↦ absurd (foreign (subst (λ (l : Leaf). Rules tree roots l rank) (sym same) w.1))
+        | inl same ↦ absurd (foreign (subst (λ (l : Leaf). IsAuthority state l rank) (sym same) w.1))
         | inr among ↦ others.1 (among, w.1)
       ],
     )

@@ -1,5 +1,5 @@
 -- The number that a rank offers next is unused in the tree that a sound cluster shows, and in a rank's range.
-use Rattle.cluster_core.proofs.Common.{AreMastersThere, AreRanks, Bool, Core, Entry, Ino, IsOffered, IsRankNumber, IsSound, IsSupplied, IsUnused, List, MatchBool, None, Opening, Option, Rank, Rules, Some, Supply, ap, arith, cond, dentry_of, destination_of, end_number, false, is_directory, length, ltb-true, main_leaf, nat_lt, nat_tests, offer, refl, shown, supply_of, sym, true, ◌<◌, ◌∙◌, ◌≡◌}
+use Rattle.cluster_core.proofs.Common.{AreMastersThere, AreRanks, Bool, Core, Entry, Ino, IsAuthority, IsOffered, IsRankNumber, IsSound, IsSupplied, IsUnused, List, MatchBool, None, Opening, Option, Rank, Some, Supply, ap, arith, cond, dentry_of, destination_of, end_number, false, is_directory, length, ltb-true, main_leaf, nat_lt, nat_tests, offer, refl, shown, supply_of, sym, true, ◌<◌, ◌∙◌, ◌≡◌}
 use Rattle.std.specs.FinMap as map
 use Rattle.cluster_core.proofs.OpeningLaws.{numbers_from}
 
@@ -35,9 +35,9 @@ module _ (opening : Opening) (past : List Entry) (core : Core) (sound : IsSound 
       go false below = tt
 
   -- the master of each operation is one of the ranks: the rank itself, or that of a root
-  pub masters_there : AreMastersThere core.state.tree core.state.roots rank (length core.state.inboxes)
+  pub masters_there : AreMastersThere core.state rank
   masters_there op master h = go (is_directory (shown core.state) (destination_of op)) h
     where
-      go : (b : Bool) → MatchBool b (Rules core.state.tree core.state.roots (main_leaf core.state.tree.covers op) master) (master ≡ rank) → master.0 < length core.state.inboxes
+      go : (b : Bool) → MatchBool b (IsAuthority core.state (main_leaf core.state.tree.covers op) master) (master ≡ rank) → master.0 < length core.state.inboxes
       go true rules = omega (arith, sound.exported.ranked rules.root master rules.ranked, sound.ranks.caches, sound.ranks.inboxes)
       go false same = omega (arith, ap (λ (r : Rank). r.0) same, there, sound.ranks.inboxes)

@@ -1,5 +1,5 @@
 -- What serving makes of the tree and of what stands beside it, said of the cluster's state.
-use Rattle.cluster_core.proofs.Common.{Answer, Answers, AppliesRequest, Bool, CarryLeaves, Change, ChangesOnly, Checked, Checks, Covers, Deferred, Dirfrag, Entry, Err, FollowPlanned, ForwardsTo, HasLeft, Inboxes, Ino, IsApplied, IsChecked, IsKeptAt, IsLeft, IsMasterIn, IsNew, IsNoted, IsOneOf, IsPrepared, IsTakenOut, IsTrimmed, IsUntouched, LacksNumber, LeavesRefused, List, MakesPlanned, MayTouchAllIn, MustWaitIn, NoInodes, NoMemory, None, Ok, Op, Option, Outcome, Pin, Prepared, Rank, Refusal, RefusesRequest, Repeats, Replies, Reply, Request, Result, Roots, ServesInbox, Some, Standing, State, Supply, Table, Tree, Trimmed, [], after_plan, after_taking, answers, ap, append_assoc, arith, changed_fragments, cond, entry_of, false, fragments_are, fragments_in, inl, inr, is_idle, leaves_of, length, length-append, no_supply, noted, number_taken, number_or, offer, refl, root_fragment, set, set-get_or, shown_tree, slice_index_or, state_of, step, subst, supply_of, sym, trimmed, true, went_with, with_entry, with_waiting, without_gone, without_request, ℕ, ◌++◌, ◌+◌, ◌∙◌, ◌∷◌, ◌≡◌, ◌≢◌, ◌⊎◌}
+use Rattle.cluster_core.proofs.Common.{Answer, Answers, AppliesRequest, Bool, CarryLeaves, Change, ChangesOnly, Checked, Checks, Covers, Deferred, Dirfrag, Entry, Err, FollowPlanned, ForwardsTo, HasLeft, Inboxes, Ino, IsApplied, IsChecked, IsKeptAt, IsLeft, IsMaster, IsNew, IsNoted, IsOneOf, IsPrepared, IsTakenOut, IsTrimmed, IsUntouched, LacksNumber, LeavesRefused, List, MakesPlanned, MayTouchAll, MustWait, NoInodes, NoMemory, None, Ok, Op, Option, Outcome, Pin, Prepared, Rank, Refusal, RefusesRequest, Repeats, Replies, Reply, Request, Result, ServesInbox, Some, State, Supply, Table, Tree, Trimmed, [], after_plan, after_taking, answers, ap, append_assoc, arith, changed_fragments, cond, entry_of, false, fragments_are, fragments_in, inl, inr, is_idle, leaves_of, length, length-append, no_supply, noted, number_taken, number_or, offer, outcome_of, refl, root_fragment, set, set-get_or, shown, shown_tree, slice_index_or, step, subst, supply_of, sym, trimmed, true, went_with, with_entry, with_waiting, without_gone, without_request, ℕ, ◌++◌, ◌+◌, ◌∙◌, ◌∷◌, ◌≡◌, ◌≢◌, ◌⊎◌}
 use Rattle.mds_types.specs.declared.replies.Reply.{Reply as Replied}
 use Rattle.dentry_cache.specs.Cache.{Leaf}
 use Rattle.mdcache.specs.State.{State as TreeState}
@@ -61,37 +61,33 @@ module _ (old new : Inboxes) (before after : List Pin) (known sessions : Table) 
   replies_behind said (Err reason) request rest long h =
       record { named = h.named; inboxes = h.inboxes; pins = h.pins; same = ap (λ (l : List Entry). gone ++ l) h.same; known_still = h.known_still }
 
-module _ (f : TreeState) (roots : Roots) (exports : Standing) (numbers : List Supply) (inboxes : Inboxes) (pins : List Pin) (sessions : Table) (past : List Entry) (rank : Rank) (MayRefuse : Op → Refusal → Type 0) where
+module _ (old : State) (past : List Entry) (rank : Rank) (MayRefuse : Op → Refusal → Type 0) where
   -- the request at the front, and those behind it
   module _ (request : Request) (rest : List Request) where
-    abbrev old : State
-    old = state_of f roots exports numbers inboxes pins sessions
-
     -- ---- a request that is answered at once
 
-    pub ended : (inboxes_now : Inboxes) (pins_now : List Pin) → IsTrimmed past request.client request.tid request.oldest → HasLeft inboxes inboxes_now pins pins_now rank request rest
-        → ServesInbox old (state_of f roots exports numbers inboxes_now pins_now sessions) past past MayRefuse rank (Err Trimmed) (request ∷ rest)
-    ended inboxes_now pins_now old_one h =
-        inl (refl, old_one, record { same = refl; left = λ i. record { tree = f; roots = roots; exports = exports; numbers = numbers; inboxes = h.inboxes i; pins = h.ended i; sessions = sessions } })
+    pub ended : (inboxes : Inboxes) (pins : List Pin) → IsTrimmed past request.client request.tid request.oldest → HasLeft old.inboxes inboxes old.pins pins rank request rest
+        → ServesInbox old (record old { inboxes = inboxes; pins = pins }) past past MayRefuse rank (Err Trimmed) (request ∷ rest)
+    ended inboxes pins old_one h = inl (refl, old_one, record { same = refl; left = λ i. record old { inboxes = h.inboxes i; pins = h.ended i } })
 
-    pub again : (inboxes_now : Inboxes) (pins_now : List Pin) (place : ℕ) (said : Replied) (result : Result Answer Refusal) → IsKeptAt past request.client request.tid request.oldest place → ((e : Entry) → said ≡ (slice_index_or past place e).reply)
-        → Repeats inboxes inboxes_now pins pins_now rank place said result request rest
-        → ServesInbox old (state_of f roots exports numbers inboxes_now pins_now sessions) past past MayRefuse rank result (request ∷ rest)
-    again inboxes_now pins_now place said (Ok answer) kept is h = inr (inl (record {
+    pub again : (inboxes : Inboxes) (pins : List Pin) (place : ℕ) (said : Replied) (result : Result Answer Refusal) → IsKeptAt past request.client request.tid request.oldest place → ((e : Entry) → said ≡ (slice_index_or past place e).reply)
+        → Repeats old.inboxes inboxes old.pins pins rank place said result request rest
+        → ServesInbox old (record old { inboxes = inboxes; pins = pins }) past past MayRefuse rank result (request ∷ rest)
+    again inboxes pins place said (Ok answer) kept is h = inr (inl (record {
       place = place;
       kept = kept;
       answered = λ e. h.0 ∙ ap (λ r. Reply request.client request.tid place false r) (is e);
-      out = record { same = refl; left = λ i. record { tree = f; roots = roots; exports = exports; numbers = numbers; inboxes = h.1.inboxes i; pins = h.1.ended i; sessions = sessions } };
+      out = record { same = refl; left = λ i. record old { inboxes = h.1.inboxes i; pins = h.1.ended i } };
     }))
-    again inboxes_now pins_now place said (Err reason) kept is h =
-        inr (inr (inr (inl (h.0, inl (place, kept), record { same = refl; left = λ i. record { tree = f; roots = roots; exports = exports; numbers = numbers; inboxes = h.1 i; pins = h.2 i; sessions = sessions } }))))
+    again inboxes pins place said (Err reason) kept is h =
+        inr (inr (inr (inl (h.0, inl (place, kept), record { same = refl; left = λ i. record old { inboxes = h.1 i; pins = h.2 i } }))))
 
     -- ---- a new request
 
-    pub goes_on : (inboxes_now : Inboxes) (master : Rank) (result : Result Answer Refusal)
-        → IsNew past request.client request.tid request.oldest → IsMasterIn f roots rank request.op master → master ≢ rank
-        → ForwardsTo inboxes inboxes_now rank master result request rest → ServesInbox old (state_of f roots exports numbers inboxes_now pins sessions) past past MayRefuse rank result (request ∷ rest)
-    goes_on inboxes_now master (Ok answer) new is other h = inr (inr (inl (record {
+    pub goes_on : (inboxes : Inboxes) (master : Rank) (result : Result Answer Refusal)
+        → IsNew past request.client request.tid request.oldest → IsMaster old rank request.op master → master ≢ rank
+        → ForwardsTo old.inboxes inboxes rank master result request rest → ServesInbox old (record old { inboxes = inboxes }) past past MayRefuse rank result (request ∷ rest)
+    goes_on inboxes master (Ok answer) new is other h = inr (inr (inl (record {
       is_new = new;
       master = master;
       is_master = is;
@@ -99,97 +95,80 @@ module _ (f : TreeState) (roots : Roots) (exports : Standing) (numbers : List Su
       answered = h.0;
       room = h.1;
       same = refl;
-      left = λ i. record { tree = f; roots = roots; exports = exports; numbers = numbers; inboxes = h.2 i; pins = pins; sessions = sessions };
+      left = λ i. record old { inboxes = h.2 i };
     })))
-    goes_on inboxes_now master (Err reason) new is other h = inr (inr (inl (
+    goes_on inboxes master (Err reason) new is other h = inr (inr (inl (
       h.0,
       record { is_new = new; master = master; is_master = is; other = other; full = h.1 },
-      record { same = refl; left = λ i. record { tree = f; roots = roots; exports = exports; numbers = numbers; inboxes = h.2 i; pins = pins; sessions = sessions } },
+      record { same = refl; left = λ i. record old { inboxes = h.2 i } },
     )))
 
     -- at its master
-    module _ (new : IsNew past request.client request.tid request.oldest) (master : IsMasterIn f roots rank request.op rank) where
+    module _ (new : IsNew past request.client request.tid request.oldest) (master : IsMaster old rank request.op rank) where
       -- after reads that keep all
-      module _ (g : TreeState) (roots_now : Roots) (exports_now : Standing) (follows : g ≡ f) (rooted : roots_now ≡ roots) (stood : exports_now ≡ exports) where
-        pub refused_early : (reason : Refusal) → reason ≢ NoInodes → (reason ≡ NoMemory) ⊎ MayRefuse request.op reason
-            → ServesInbox old (state_of g roots_now exports_now numbers inboxes pins sessions) past past MayRefuse rank (Err reason) (request ∷ rest)
+      module _ (mid : State) (kept : mid ≡ old) where
+        pub refused_early : (reason : Refusal) → reason ≢ NoInodes → (reason ≡ NoMemory) ⊎ MayRefuse request.op reason → ServesInbox old mid past past MayRefuse rank (Err reason) (request ∷ rest)
         refused_early reason other why = go why
           where
-            all_left : IsLeft old (state_of g roots_now exports_now numbers inboxes pins sessions) past past
-            all_left = record { same = refl; left = λ i. record { tree = follows i; roots = rooted i; exports = stood i; numbers = numbers; inboxes = inboxes; pins = pins; sessions = sessions } }
+            go : (reason ≡ NoMemory) ⊎ MayRefuse request.op reason → ServesInbox old mid past past MayRefuse rank (Err reason) (request ∷ rest)
+            go (inl memory) = inr (inr (inr (inl (memory, inr (record { is_new = new; master = master }), record { same = refl; left = kept }))))
+            go (inr may) = inr (inr (inr (inr (other, record { is_new = new; master = master }, may, record { same = refl; left = kept }))))
 
-            go : (reason ≡ NoMemory) ⊎ MayRefuse request.op reason → ServesInbox old (state_of g roots_now exports_now numbers inboxes pins sessions) past past MayRefuse rank (Err reason) (request ∷ rest)
-            go (inl memory) = inr (inr (inr (inl (memory, inr (record { is_new = new; master = master }), all_left))))
-            go (inr may) = inr (inr (inr (inr (other, record { is_new = new; master = master }, may, all_left))))
-
-        pub deferred : (inboxes_now : Inboxes) → MustWaitIn f roots exports pins rank request.client request.tid request.op → inboxes_now ≡ with_waiting inboxes rank (rest ++ request ∷ [])
-            → ServesInbox old (state_of g roots_now exports_now numbers inboxes_now pins sessions) past past MayRefuse rank (Ok Deferred) (request ∷ rest)
-        deferred inboxes_now lacks turned = inr (inr (inr (record {
-          is_new = new;
-          master = master;
-          waits = lacks;
-          answered = refl;
-          same = refl;
-          left = λ i. record { tree = follows i; roots = rooted i; exports = stood i; numbers = numbers; inboxes = turned i; pins = pins; sessions = sessions };
-        })))
+        pub deferred : (inboxes : Inboxes) → MustWait old rank request → inboxes ≡ with_waiting old.inboxes rank (rest ++ request ∷ []) → ServesInbox old (record mid { inboxes = inboxes }) past past MayRefuse rank (Ok Deferred) (request ∷ rest)
+        deferred inboxes lacks turned =
+            inr (inr (inr (record { is_new = new; master = master; waits = lacks; answered = refl; same = refl; left = λ i. record (kept i) { inboxes = turned i } })))
 
         -- refused, once there is room in the history and in the sessions
-        pub refused_there : (between : Table) (middle : List Entry) (numbers_now : List Supply) (inboxes_now : Inboxes) (pins_now : List Pin) (reason : Refusal) → between ≡ sessions → middle ≡ past → numbers_now ≡ numbers
-            → MayTouchAllIn f roots exports pins rank request.client request.tid request.op
-            → WhyUnmade (MayRefuse request.op) (outcome_with f (supply_of old rank) request.op) (offer (supply_of old rank)) reason
-            → LeavesRefused inboxes inboxes_now pins pins_now rank reason request rest
-            → AppliesRequest old (state_of g roots_now exports_now numbers_now inboxes_now pins_now between) past middle MayRefuse rank (Err reason) request rest
-        refused_there between middle numbers_now inboxes_now pins_now reason known past_is unused may why (inl (named, out)) = inr (inl (named, record { is_new = new; master = master }, (may, go why), gone))
+        pub refused_there : (middle : List Entry) (inboxes : Inboxes) (pins : List Pin) (reason : Refusal) → middle ≡ past → MayTouchAll old rank request
+            → WhyUnmade (MayRefuse request.op) (outcome_of old rank request) (offer (supply_of old rank)) reason
+            → LeavesRefused old.inboxes inboxes old.pins pins rank reason request rest
+            → AppliesRequest old (record mid { inboxes = inboxes; pins = pins }) past middle MayRefuse rank (Err reason) request rest
+        refused_there middle inboxes pins reason past_is may why (inl (named, out)) = inr (inl (named, record { is_new = new; master = master }, (may, go why), gone))
           where
-            gone : IsTakenOut old (state_of g roots_now exports_now numbers_now inboxes_now pins_now between) past middle rank request rest
-            gone = record {
-              same = past_is;
-              left = λ i. record { tree = follows i; roots = rooted i; exports = stood i; numbers = unused i; inboxes = out.inboxes i; pins = out.ended i; sessions = known i };
-            }
+            gone : IsTakenOut old (record mid { inboxes = inboxes; pins = pins }) past middle rank request rest
+            gone = record { same = past_is; left = λ i. record (kept i) { inboxes = out.inboxes i; pins = out.ended i } }
 
-            go : WhyUnmade (MayRefuse request.op) (outcome_with f (supply_of old rank) request.op) (offer (supply_of old rank)) reason
-                → LacksNumber (outcome_with f (supply_of old rank) request.op) (offer (supply_of old rank)) NoInodes ⊎ MayRefuse request.op NoInodes
-            go (inl lacks) = inl (subst (LacksNumber (outcome_with f (supply_of old rank) request.op) (offer (supply_of old rank))) named lacks)
+            go : WhyUnmade (MayRefuse request.op) (outcome_of old rank request) (offer (supply_of old rank)) reason → LacksNumber (outcome_of old rank request) (offer (supply_of old rank)) NoInodes ⊎ MayRefuse request.op NoInodes
+            go (inl lacks) = inl (subst (LacksNumber (outcome_of old rank request) (offer (supply_of old rank))) named lacks)
             go (inr (inl memory)) = let clash : NoInodes ≡ NoMemory = sym named ∙ memory in absurd cc
             go (inr (inr because)) = inr (subst (MayRefuse request.op) named because)
-        refused_there between middle numbers_now inboxes_now pins_now reason known past_is unused may why (inr (other, kept, still)) = go why
+        refused_there middle inboxes pins reason past_is may why (inr (other, stay, still)) = go why
           where
-            all_left : IsLeft old (state_of g roots_now exports_now numbers_now inboxes_now pins_now between) past middle
-            all_left = record { same = past_is; left = λ i. record { tree = follows i; roots = rooted i; exports = stood i; numbers = unused i; inboxes = kept i; pins = still i; sessions = known i } }
+            all_left : IsLeft old (record mid { inboxes = inboxes; pins = pins }) past middle
+            all_left = record { same = past_is; left = λ i. record (kept i) { inboxes = stay i; pins = still i } }
 
-            go : WhyUnmade (MayRefuse request.op) (outcome_with f (supply_of old rank) request.op) (offer (supply_of old rank)) reason
-                → RefusesRequest old (state_of g roots_now exports_now numbers_now inboxes_now pins_now between) past middle MayRefuse rank request rest reason
+            go : WhyUnmade (MayRefuse request.op) (outcome_of old rank request) (offer (supply_of old rank)) reason → RefusesRequest old (record mid { inboxes = inboxes; pins = pins }) past middle MayRefuse rank request rest reason
             go (inl lacks) = absurd (other lacks.named)
             go (inr (inl memory)) = inr (inr (inr (inl (memory, inr (record { is_new = new; master = master }), all_left))))
             go (inr (inr because)) = inr (inr (inr (inr (other, record { is_new = new; master = master }, because, all_left))))
 
       -- a request whose change was made, or that makes none, and that was noted then
-      module _ (h : TreeState) (roots_now : Roots) (exports_now : Standing) (between : Table) (middle : List Entry) (numbers_now : List Supply) (known : between ≡ sessions) (past_is : middle ≡ past) (unused : numbers_now ≡ numbers) (stand : exports_now ≡ exports)
-          (inboxes_now : Inboxes) (numbers_after : List Supply) (pins_now : List Pin) (sessions_now : Table) (now : List Entry) (change : Option Change) (prepared : Prepared) (answer : Answer)
-          (may : MayTouchAllIn f roots exports pins rank request.client request.tid request.op)
-          (is : IsOutcome f.limit (shown_tree f) f.covers request.op (outcome_with f (supply_of old rank) request.op) (supply_of old rank) change prepared)
-          (tree : shown_tree h ≡ after_plan (shown_tree f) change)
-          (made : MakesPlanned change f h)
-          (leaves : CarryLeaves (shown_tree f) (shown_tree h) f.covers h.covers)
-          (frame : ChangesOnly (IsUntouched f h) (fragments_in f.covers change))
-          (followed : FollowPlanned change f roots roots_now)
-          (noted_now : IsNoted inboxes inboxes_now pins pins_now between sessions_now (length middle) middle now rank prepared.number prepared.went prepared.reply prepared.answer request rest answer)
-          (drawn : numbers_after ≡ set numbers_now rank.0 prepared.numbers) where
+      module _ (after : State) (between : Table) (middle : List Entry) (numbers : List Supply) (known : between ≡ old.sessions) (past_is : middle ≡ past) (unused : numbers ≡ old.numbers) (stand : after.exports ≡ old.exports)
+          (now : List Entry) (change : Option Change) (prepared : Prepared) (answer : Answer)
+          (may : MayTouchAll old rank request)
+          (is : IsOutcome old.tree.limit (shown old) old.tree.covers request.op (outcome_of old rank request) (supply_of old rank) change prepared)
+          (tree : shown after ≡ after_plan (shown old) change)
+          (made : MakesPlanned change old.tree after.tree)
+          (leaves : CarryLeaves (shown old) (shown after) old.tree.covers after.tree.covers)
+          (frame : ChangesOnly (IsUntouched old.tree after.tree) (fragments_in old.tree.covers change))
+          (followed : FollowPlanned change old.tree old.roots after.roots)
+          (noted_now : IsNoted old.inboxes after.inboxes old.pins after.pins between after.sessions (length middle) middle now rank prepared.number prepared.went prepared.reply prepared.answer request rest answer)
+          (drawn : after.numbers ≡ set numbers rank.0 prepared.numbers) where
         abbrev entry : Option Ino → Replied → Entry
         entry number reply = record { client = request.client; tid = request.tid; oldest = request.oldest; op = request.op; number = number; reply = reply }
 
-        num : numbers_after ≡ set numbers rank.0 (after_taking (supply_of old rank) (number_taken old rank request))
+        num : after.numbers ≡ set old.numbers rank.0 (after_taking (supply_of old rank) (number_taken old rank request))
         num =
             drawn ∙ ap (λ (n : List Supply). set n rank.0 prepared.numbers) unused
-            ∙ ap (set numbers rank.0) (is.drawn ∙ ap (after_taking (supply_of old rank)) is.took)
+            ∙ ap (set old.numbers rank.0) (is.drawn ∙ ap (after_taking (supply_of old rank)) is.took)
 
-        ses : sessions_now ≡ with_entry sessions (length past) (entry_of old rank request)
+        ses : after.sessions ≡ with_entry old.sessions (length past) (entry_of old rank request)
         ses =
             noted_now.noted
             ∙ ap (λ t. trimmed (noted t request.client request.tid request.oldest (length middle)) request.client) known
-            ∙ ap (λ m. trimmed (noted sessions request.client request.tid request.oldest (length m)) request.client) past_is
+            ∙ ap (λ m. trimmed (noted old.sessions request.client request.tid request.oldest (length m)) request.client) past_is
 
-        pub applied_new : IsApplied old (state_of h roots_now exports_now numbers_after inboxes_now pins_now sessions_now) past now rank request rest answer
+        pub applied_new : IsApplied old after past now rank request rest answer
         applied_new = record {
           is_new = new;
           master = master;
@@ -209,27 +188,27 @@ module _ (f : TreeState) (roots : Roots) (exports : Standing) (numbers : List Su
             fragments = is.fragments;
             made = made;
             roots = followed;
-            pins = noted_now.pins ∙ ap (without_gone (without_request pins request)) is.went;
+            pins = noted_now.pins ∙ ap (without_gone (without_request old.pins request)) is.went;
           };
           leaves = leaves;
-          frame = subst (λ (leaves : List Leaf). ChangesOnly (IsUntouched f h) leaves) is.fragments frame;
-          left = λ i. record { tree = h; roots = roots_now; exports = stand i; numbers = num i; inboxes = noted_now.inboxes i; pins = pins_now; sessions = ses i };
+          frame = subst (λ (leaves : List Leaf). ChangesOnly (IsUntouched old.tree after.tree) leaves) is.fragments frame;
+          left = λ i. record after { exports = stand i; numbers = num i; inboxes = noted_now.inboxes i; sessions = ses i };
         }
 
       -- a request that changes nothing, and was answered, or waits on
-      module _ (Holds : Dirfrag → Type 0) (limit n : ℕ) (supply : Supply) (checked : Checked) (said : Replied) (limit_is : limit ≡ f.limit) (n_is : n ≡ number_or (offer supply)) (left : supply ≡ supply_of old rank)
-          (answers_so : checked ≡ Answers said) (found : Checks (shown_tree f) f.covers Holds request.op n (step limit (shown_tree f) request.op n) checked) where
-        told : (step limit (shown_tree f) request.op n ≡ answers (shown_tree f) said) × (is_idle request.op said ≡ true)
-        told = subst (λ (k : Checked). Checks (shown_tree f) f.covers Holds request.op n (step limit (shown_tree f) request.op n) k) answers_so found
+      module _ (Holds : Dirfrag → Type 0) (limit n : ℕ) (supply : Supply) (checked : Checked) (said : Replied) (limit_is : limit ≡ old.tree.limit) (n_is : n ≡ number_or (offer supply)) (left : supply ≡ supply_of old rank)
+          (answers_so : checked ≡ Answers said) (found : Checks (shown old) old.tree.covers Holds request.op n (step limit (shown old) request.op n) checked) where
+        told : (step limit (shown old) request.op n ≡ answers (shown old) said) × (is_idle request.op said ≡ true)
+        told = subst (λ (k : Checked). Checks (shown old) old.tree.covers Holds request.op n (step limit (shown old) request.op n) k) answers_so found
 
-        outcome_is : outcome_with f (supply_of old rank) request.op ≡ answers (shown_tree f) said
-        outcome_is = (λ i. step (sym limit_is i) (shown_tree f) request.op (sym (n_is ∙ ap (λ (s : Supply). number_or (offer s)) left) i)) ∙ told.0
+        outcome_is : outcome_of old rank request ≡ answers (shown old) said
+        outcome_is = (λ i. step (sym limit_is i) (shown old) request.op (sym (n_is ∙ ap (λ (s : Supply). number_or (offer s)) left) i)) ∙ told.0
 
         -- nothing changes, and no number is taken
         abbrev readily : Prepared
         readily = record { reply = said; answer = said; number = None; numbers = supply_of old rank; went = None }
 
-        outcome_so : IsOutcome f.limit (shown_tree f) f.covers request.op (outcome_with f (supply_of old rank) request.op) (supply_of old rank) None readily
+        outcome_so : IsOutcome old.tree.limit (shown old) old.tree.covers request.op (outcome_of old rank request) (supply_of old rank) None readily
         outcome_so = record {
           replied = sym (ap (λ (o : Outcome). o.reply) outcome_is);
           copied = sym (ap (λ (o : Outcome). o.reply) outcome_is);
@@ -239,24 +218,20 @@ module _ (f : TreeState) (roots : Roots) (exports : Standing) (numbers : List Su
           went = refl;
           leads = sym (ap (λ (o : Outcome). o.tree) outcome_is);
           one_of = tt;
-          fragments = sym (idle_fragments f.limit f.covers (shown_tree f) request.op (number_or (offer (supply_of old rank))) said outcome_is told.1);
+          fragments = sym (idle_fragments old.tree.limit old.tree.covers (shown old) request.op (number_or (offer (supply_of old rank))) said outcome_is told.1);
         }
 
-        pub replied : (inboxes_now : Inboxes) (pins_now : List Pin) (sessions_now : Table) (now : List Entry) (numbers_after : List Supply) (result : Result Answer Refusal)
-            → MayTouchAllIn f roots exports pins rank request.client request.tid request.op → numbers_after ≡ numbers
-            → Replies inboxes inboxes_now pins pins_now sessions sessions_now (length past) past now rank said result request rest
-            → AppliesRequest old (state_of f roots exports numbers_after inboxes_now pins_now sessions_now) past now MayRefuse rank result request rest
-        replied inboxes_now pins_now sessions_now now numbers_after (Ok answer) may same h =
-            applied_new f roots exports sessions past numbers refl refl refl refl inboxes_now numbers_after pins_now sessions_now now None readily answer may outcome_so
-            refl refl (λ d there. sym (ap (λ b. cond b (leaves_of f.covers d) (root_fragment ∷ [])) there)) (λ leaf out live. record { live = live; names = refl }) refl h
-            (same ∙ sym (set-get_or numbers rank.0 no_supply))
-        replied inboxes_now pins_now sessions_now now numbers_after (Err reason) may same h = inr (inr (inr (inl (
+        pub replied : (inboxes : Inboxes) (pins : List Pin) (sessions : Table) (now : List Entry) (numbers : List Supply) (result : Result Answer Refusal) → MayTouchAll old rank request → numbers ≡ old.numbers
+            → Replies old.inboxes inboxes old.pins pins old.sessions sessions (length past) past now rank said result request rest
+            → AppliesRequest old (record old { numbers = numbers; inboxes = inboxes; pins = pins; sessions = sessions }) past now MayRefuse rank result request rest
+        replied inboxes pins sessions now numbers (Ok answer) may same h =
+            applied_new (record old { numbers = numbers; inboxes = inboxes; pins = pins; sessions = sessions }) old.sessions past old.numbers refl refl refl refl now None readily answer may outcome_so
+            refl refl (λ d there. sym (ap (λ b. cond b (leaves_of old.tree.covers d) (root_fragment ∷ [])) there)) (λ leaf out live. record { live = live; names = refl }) refl h
+            (same ∙ sym (set-get_or old.numbers rank.0 no_supply))
+        replied inboxes pins sessions now numbers (Err reason) may same h = inr (inr (inr (inl (
           h.named,
           inr (record { is_new = new; master = master }),
-          record {
-            same = h.same;
-            left = λ i. record { tree = f; roots = roots; exports = exports; numbers = same i; inboxes = h.inboxes i; pins = h.pins i; sessions = h.known_still i };
-          },
+          record { same = h.same; left = λ i. record old { numbers = same i; inboxes = h.inboxes i; pins = h.pins i; sessions = h.known_still i } },
         ))))
 
 -- ---- what was done after reads is said of what was before them

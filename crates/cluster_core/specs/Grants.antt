@@ -7,19 +7,15 @@ use Rattle.mds_types.specs.declared.operations.Op.{Op}
 use Rattle.mds_types.specs.declared.requests.Request.{Request}
 use Rattle.mds_types.specs.declared.refusals.Refusal.{Refusal}
 use Rattle.mds_types.specs.declared.refusals.Refusal.TheVariants.{Frozen, InboxEmpty, NoInodes, NoMemory, NotAuthority}
-use Rattle.export_steps.specs.Holder.{IsFrozen}
-use Rattle.export_steps.specs.Standing.{Standing}
 use Rattle.inboxes.specs.declared.pins.Pin.{Pin}
 use Rattle.inboxes.specs.Inboxes.{first_waiting}
 use Rattle.inboxes.specs.Pins.{with_grant}
-use Rattle.subtree_map.specs.Authority.{Leaf, Roots}
-use Rattle.mdcache.specs.State.{State as TreeState}
+use Rattle.subtree_map.specs.Authority.{Leaf}
 use Rattle.cluster_core.specs.declared.events.Answer.{Answer}
 use Rattle.cluster_core.specs.declared.events.Answer.TheVariants.{Nothing}
 use Rattle.cluster_core.specs.Master.{IsAuthority, IsFrozenAt, grant_of, would_change}
 use Rattle.cluster_core.specs.Serve.{IsLeft}
 use Rattle.cluster_core.specs.State.{State}
-use Rattle.ranked_tree.specs.Subtrees.{Rules}
 
 -- a leaf that a request would change now, and whose authority is the rank
 pub record IsGranted (state : State) (rank : Rank) (op : Op) (leaf : Leaf) : Type 0 where
@@ -76,32 +72,28 @@ GrantsWaiting old new past now MayRefuse rank client tid result =
 -- ---- words of this crate's own contracts
 
 -- those leaves, of these, whose authority is a rank
-abbrev pub AreHeldAmong : TreeState → Roots → Rank → (leaves held : List Leaf) → Type 0
-AreHeldAmong tree roots rank [] held = held ≡ []
-AreHeldAmong tree roots rank (leaf ∷ leaves) held =
-    (Rules tree roots leaf rank × ((rest : List Leaf) × (held ≡ leaf ∷ rest)
-    × AreHeldAmong tree roots rank leaves rest))
-    ⊎ ((Rules tree roots leaf rank → ⊥) × AreHeldAmong tree roots rank leaves held)
+abbrev pub AreHeldAmong : State → Rank → (leaves held : List Leaf) → Type 0
+AreHeldAmong state rank [] held = held ≡ []
+AreHeldAmong state rank (leaf ∷ leaves) held =
+    (IsAuthority state leaf rank × ((rest : List Leaf) × (held ≡ leaf ∷ rest) × AreHeldAmong state rank leaves rest))
+    ⊎ ((IsAuthority state leaf rank → ⊥) × AreHeldAmong state rank leaves held)
 
 -- a rank is the authority of one of these leaves
-abbrev pub HoldsOne : TreeState → Roots → Rank → List Leaf → Type 0
-HoldsOne tree roots rank leaves = (leaf : Leaf) × Contains leaves leaf × Rules tree roots leaf rank
+abbrev pub HoldsOne : State → Rank → List Leaf → Type 0
+HoldsOne state rank leaves = (leaf : Leaf) × Contains leaves leaf × IsAuthority state leaf rank
 
 -- one of these leaves is frozen
-abbrev pub IsOneFrozen : TreeState → Roots → Standing → List Leaf → Type 0
-IsOneFrozen tree roots exports leaves =
-    (leaf : Leaf) × Contains leaves leaf × IsFrozen exports roots tree.homes tree.covers leaf
+abbrev pub IsOneFrozen : State → List Leaf → Type 0
+IsOneFrozen state leaves = (leaf : Leaf) × Contains leaves leaf × IsFrozenAt state leaf
 
 -- none of these leaves is frozen
-abbrev pub AreThawedEach : TreeState → Roots → Standing → List Leaf → Type 0
-AreThawedEach tree roots exports leaves =
-    (leaf : Leaf) → Contains leaves leaf → IsFrozen exports roots tree.homes tree.covers leaf → ⊥
+abbrev pub AreThawedEach : State → List Leaf → Type 0
+AreThawedEach state leaves = (leaf : Leaf) → Contains leaves leaf → IsFrozenAt state leaf → ⊥
 
 -- why a rank can grant none of these leaves: it is the authority of none; or it is of some, and memory is refused, or
 -- one of those is frozen
-abbrev pub FindsNone : TreeState → Roots → Standing → Rank → List Leaf → Refusal → Type 0
-FindsNone tree roots exports rank leaves reason =
-    ((reason ≡ NotAuthority) × AreHeldAmong tree roots rank leaves [])
-    ⊎ ((reason ≡ NoMemory) × HoldsOne tree roots rank leaves)
-    ⊎ ((reason ≡ Frozen) × ((held : List Leaf) × AreHeldAmong tree roots rank leaves held
-    × IsOneFrozen tree roots exports held))
+abbrev pub FindsNone : State → Rank → List Leaf → Refusal → Type 0
+FindsNone state rank leaves reason =
+    ((reason ≡ NotAuthority) × AreHeldAmong state rank leaves [])
+    ⊎ ((reason ≡ NoMemory) × HoldsOne state rank leaves)
+    ⊎ ((reason ≡ Frozen) × ((held : List Leaf) × AreHeldAmong state rank leaves held × IsOneFrozen state held))

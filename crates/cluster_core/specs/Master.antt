@@ -1,7 +1,8 @@
 -- The master of a request, and the fragments that it may change (Weil et al., OSDI 2006; this project's own profile).
-use Rattle.std.specs.Prelude.{◌≡◌, ◌⊎◌, ℕ, ◌<◌, true, MatchBool, List, Option, Some, None}
+use Rattle.std.specs.Prelude.{◌≡◌, ◌⊎◌, ℕ, ◌<◌, true, MatchBool, List, length, Option, Some, None}
 use Rattle.std.specs.List.{Contains, list_any}
 use Rattle.mds_types.specs.declared.dentries.Dentry.{Dentry}
+use Rattle.mds_types.specs.declared.dirfrags.Dirfrag.{Dirfrag}
 use Rattle.mds_types.specs.declared.ids.Rank.{Rank}
 use Rattle.mds_types.specs.declared.operations.Op.{Op}
 use Rattle.mds_types.specs.declared.requests.Request.{Request}
@@ -9,7 +10,6 @@ use Rattle.mds_types.specs.Shape.{destination_of, main_dentry}
 use Rattle.mds_types.specs.Step.{step}
 use Rattle.mds_types.specs.Tree.{is_directory}
 use Rattle.export_steps.specs.Holder.{IsFrozen}
-use Rattle.export_steps.specs.Standing.{Standing}
 use Rattle.inboxes.specs.declared.pins.Pin.{Pin}
 use Rattle.inboxes.specs.Pins.{is_same_grant}
 use Rattle.inode_table.specs.Dirs.{Covers, leaves_of}
@@ -21,7 +21,7 @@ use Rattle.namespace_ops.specs.declared.plans.Checked.{Checked}
 use Rattle.subtree_map.specs.Authority.{Leaf, Roots}
 use Rattle.mdcache.specs.Shown.{shown_tree}
 use Rattle.mdcache.specs.State.{State as TreeState}
-use Rattle.cluster_core.specs.State.{State, held_roots}
+use Rattle.cluster_core.specs.State.{State, held_roots, shown}
 use Rattle.ranked_tree.specs.Subtrees.{HoldsAt, Rules}
 
 -- the leaf of a dentry; if there is no dentry, the first leaf of a directory, which has the hash 0
@@ -61,10 +61,10 @@ grant_of leaf client tid = record { dir = leaf.0; frag = leaf.1; client = client
 
 -- a rank may change a leaf for a request: the leaf isn't frozen, and the rank is its authority or the leaf is granted
 -- to the request
-abbrev pub MayTouchIn : TreeState → Roots → Standing → List Pin → Rank → (client tid : ℕ) → Leaf → Type 0
-MayTouchIn tree roots exports pins rank client tid leaf =
-    (IsFrozen exports roots tree.homes tree.covers leaf → ⊥)
-    × (Rules tree roots leaf rank ⊎ (list_any (is_same_grant (grant_of leaf client tid)) pins ≡ true))
+abbrev pub MayTouch : State → Rank → Request → Leaf → Type 0
+MayTouch state rank request leaf =
+    (IsFrozenAt state leaf → ⊥)
+    × (IsAuthority state leaf rank ⊎ (list_any (is_same_grant (grant_of leaf request.client request.tid)) state.pins ≡ true))
 
 -- the leaves that an operation would change now
 abbrev pub would_change_in : TreeState → Op → List Leaf
@@ -74,44 +74,37 @@ abbrev pub would_change : State → Op → List Leaf
 would_change state op = would_change_in state.tree op
 
 -- a rank may change each of these leaves for a request
-abbrev pub MayTouchEach : TreeState → Roots → Standing → List Pin → Rank → (client tid : ℕ) → List Leaf → Type 0
-MayTouchEach tree roots exports pins rank client tid leaves =
-    (leaf : Leaf) → Contains leaves leaf → MayTouchIn tree roots exports pins rank client tid leaf
+abbrev pub MayTouchEach : State → Rank → Request → List Leaf → Type 0
+MayTouchEach state rank request leaves =
+    (leaf : Leaf) → Contains leaves leaf → MayTouch state rank request leaf
 
 -- a rank may change all leaves that a request would change
-abbrev pub MayTouchAllIn : TreeState → Roots → Standing → List Pin → Rank → (client tid : ℕ) → Op → Type 0
-MayTouchAllIn tree roots exports pins rank client tid op =
-    MayTouchEach tree roots exports pins rank client tid (would_change_in tree op)
-
 abbrev pub MayTouchAll : State → Rank → Request → Type 0
-MayTouchAll state rank request =
-    MayTouchAllIn state.tree state.roots state.exports state.pins rank request.client request.tid request.op
+MayTouchAll state rank request = MayTouchEach state rank request (would_change state request.op)
 
 -- a rank may not change one of these leaves for a request
-pub record LacksOneOf (tree : TreeState) (roots : Roots) (exports : Standing) (pins : List Pin) (rank : Rank)
-    (client tid : ℕ) (leaves : List Leaf) : Type 0 where
+pub record LacksOneOf (state : State) (rank : Rank) (request : Request) (leaves : List Leaf) : Type 0 where
   pub leaf : Leaf
   pub changes : Contains leaves leaf
-  pub barred : MayTouchIn tree roots exports pins rank client tid leaf → ⊥
+  pub barred : MayTouch state rank request leaf → ⊥
 
 -- an operation would change a leaf that is frozen, or a leaf of another authority that isn't granted to the request
-abbrev pub MustWaitIn : TreeState → Roots → Standing → List Pin → Rank → (client tid : ℕ) → Op → Type 0
-MustWaitIn tree roots exports pins rank client tid op =
-    LacksOneOf tree roots exports pins rank client tid (would_change_in tree op)
-
 abbrev pub MustWait : State → Rank → Request → Type 0
-MustWait state rank request =
-    MustWaitIn state.tree state.roots state.exports state.pins rank request.client request.tid request.op
+MustWait state rank request = LacksOneOf state rank request (would_change state request.op)
 
 -- ---- words of this crate's own contracts
 
--- each master of an operation at a rank is one of so many ranks
-abbrev pub AreMastersThere : TreeState → Roots → Rank → ℕ → Type 0
-AreMastersThere tree roots rank count =
-    (op : Op) (master : Rank) → IsMasterIn tree roots rank op master → master.0 < count
+-- each master of an operation at a rank is one of the ranks
+abbrev pub AreMastersThere : State → Rank → Type 0
+AreMastersThere state rank =
+    (op : Op) (master : Rank) → IsMaster state rank op master → master.0 < length state.inboxes
+
+-- the rank that is named beside a leaf holds it
+abbrev pub IsAtHolder : State → Dirfrag → Type 0
+IsAtHolder state = HoldsAt state.tree (held_roots state)
 
 -- the checks of an operation gave this result, for some offered number, and with each leaf at its holder
-abbrev pub IsCheckedIn : TreeState → Roots → Op → Checked → Type 0
-IsCheckedIn tree roots op checked =
+abbrev pub IsCheckedIn : State → Op → Checked → Type 0
+IsCheckedIn state op checked =
     (n : ℕ)
-    × Checks (shown_tree tree) tree.covers (HoldsAt tree roots) op n (step tree.limit (shown_tree tree) op n) checked
+    × Checks (shown state) state.tree.covers (IsAtHolder state) op n (step state.tree.limit (shown state) op n) checked

@@ -16,9 +16,11 @@ use Rattle.mdcache.specs.New.{new_tree_state as new_tree}
 use Rattle.ranked_tree.specs.Ranked.{new_roots}
 use Rattle.mdcache.specs.Shown.{shown_tree}
 use Rattle.mdcache.specs.State.{State as TreeState}
+use Rattle.sessions.specs.Rooms.{table}
 use Rattle.sessions.specs.Table.{Table, no_table}
 use Rattle.subtree_map.specs.Authority.{Roots}
 use Rattle.cluster_core.specs.Opening.{Opening}
+use Rattle.cluster_core.specs.declared.parts.Parts.{Parts}
 
 -- all that a refused step leaves the same. The tree: its directories and their leaves, its unclean content, the objects
 -- of the store, the commits under way, the purge list and the next numbers. Beside it: the subtree roots with their
@@ -107,6 +109,12 @@ core_of tree roots exports numbers inboxes pins sessions =
           tree.caches;
       faults = tree.faults;
     }
+
+-- the cluster that has these parts
+abbrev pub cluster_of : {S : Type 0} → Parts S → Core
+cluster_of parts =
+    core_of parts.tree.tree parts.tree.subtrees.roots parts.tree.exports parts.given.numbers.items parts.waiting.inboxes
+    parts.waiting.pins (table parts.given.sessions)
 
 -- the whole range of numbers for each of so many ranks, from this one on
 abbrev pub whole_supplies : ℕ → ℕ → List Supply

@@ -56,7 +56,13 @@ impl<S: Store + Drop> Cluster<S> {
             frag,
             rank,
         };
-        split_at(alloc, &mut self.tree, &self.waiting.pins, &asked, bits)
+        split_at(
+            alloc,
+            &mut self.parts.tree,
+            &self.parts.waiting.pins,
+            &asked,
+            bits,
+        )
     }
 
     // Merges leaves of a directory.
@@ -81,7 +87,14 @@ impl<S: Store + Drop> Cluster<S> {
         if !self.is_rank(rank) {
             return Err(Refusal::NotAuthority);
         }
-        merge_at(alloc, &mut self.tree, &self.waiting.pins, rank, ino, frag)
+        merge_at(
+            alloc,
+            &mut self.parts.tree,
+            &self.parts.waiting.pins,
+            rank,
+            ino,
+            frag,
+        )
     }
 
     // Begins a commit of a leaf. If the leaf is clean, there is nothing to commit.
@@ -102,7 +115,7 @@ impl<S: Store + Drop> Cluster<S> {
         if !self.is_rank(rank) {
             return Err(Refusal::NotAuthority);
         }
-        begin_at(&mut self.tree, rank, ino, frag)
+        begin_at(&mut self.parts.tree, rank, ino, frag)
     }
 
     // Ends a commit, and writes what was encoded.
@@ -114,7 +127,7 @@ impl<S: Store + Drop> Cluster<S> {
         ensures cap { self.new.caches.cap ≡ self.old.caches.cap }
         ensures counted { self.new.faults ≡ self.old.faults + faults_told (result_err result) }
     {
-        if let Err(refusal) = self.tree.end(alloc, encoded) {
+        if let Err(refusal) = self.parts.tree.end(alloc, encoded) {
             return Err(refusal);
         }
         Ok(Answer::Nothing)
@@ -129,7 +142,7 @@ impl<S: Store + Drop> Cluster<S> {
         ensures cap { self.new.caches.cap ≡ self.old.caches.cap }
         ensures counted { self.new.faults ≡ self.old.faults + faults_told (result_err result) }
     {
-        self.tree.drop_job(job)?;
+        self.parts.tree.drop_job(job)?;
         Ok(Answer::Nothing)
     }
 
@@ -142,7 +155,7 @@ impl<S: Store + Drop> Cluster<S> {
         ensures cap { self.new.caches.cap ≡ self.old.caches.cap }
         ensures counted { self.new.faults ≡ self.old.faults + faults_told (result_err result) }
     {
-        self.tree.commit_tree(alloc, ino)?;
+        self.parts.tree.commit_tree(alloc, ino)?;
         Ok(Answer::Nothing)
     }
 
@@ -155,7 +168,7 @@ impl<S: Store + Drop> Cluster<S> {
         ensures cap { self.new.caches.cap ≡ self.old.caches.cap }
         ensures counted { self.new.faults ≡ self.old.faults + faults_told (result_err result) }
     {
-        self.tree.purge()?;
+        self.parts.tree.purge()?;
         Ok(Answer::Nothing)
     }
 
@@ -173,7 +186,7 @@ impl<S: Store + Drop> Cluster<S> {
         if !self.is_rank(rank) {
             return Err(Refusal::NotAuthority);
         }
-        self.tree.evict(rank)?;
+        self.parts.tree.evict(rank)?;
         Ok(Answer::Nothing)
     }
 }

@@ -8,27 +8,24 @@ ghost use Rattle.inboxes.specs.Inboxes.{waiting_at};
 ghost use Rattle.inode_table.specs.Numbers.{offer};
 ghost use Rattle.namespace_ops.specs.Changes.{IsOffered};
 ghost use Rattle.sessions.specs.Rooms.{IsReady, IsSessionAt, table};
-ghost use Rattle.mdcache.specs.Core.{state_of as tree_state};
-ghost use Rattle.mdcache.specs.Shown.{shown_tree};
-ghost use Rattle.ranked_tree.specs.Ranked.{held_roots, MayRefuse};
 ghost use Rattle.ranked_tree.specs.Subtrees.{KeepsRoots};
 ghost use Rattle.mds_types.specs.declared.entries.Entry.{Entry as Applied};
 ghost use Rattle.cluster_core.specs.Asked.{IsNewTo, IsSessionOf, MayApply};
 ghost use Rattle.cluster_core.specs.Offer.{after_taking};
 ghost use Rattle.cluster_core.specs.Prepared.{IsPrepared, WhyUnprepared};
 ghost use Rattle.cluster_core.specs.Serve.{AppliesRequest, AtFront, IsNoted, LeavesRefused, without_gone};
-ghost use Rattle.cluster_core.specs.State.{state_of};
+ghost use Rattle.cluster_core.specs.State.{cluster_of, held_roots, shown};
+ghost use Rattle.cluster_core.specs.Steps.{TreeMayRefuse};
 ghost use Rattle.cluster_core.specs.Uses.{UsesApplied};
 
 use crate::answering::make_room;
 use crate::events::Answer;
-use crate::parts::{Asked, Given, Waiting};
+use crate::parts::{Asked, Given, Parts, Waiting};
 use inboxes::Pins;
 use inode_table::Numbers;
 use mds_types::{Entry, Ino, Rank, Refusal, Reply, Request};
 use namespace_ops::Change;
 use objstore::Store;
-use ranked_tree::RankedTree;
 use std::alloc::Global;
 
 /// What the cluster keeps beside the tree after the change of a request.
@@ -46,57 +43,55 @@ pub struct Prepared {
     went: Option<Ino>,
 }
 
-/// Applies the new request at the front of its master's inbox, which may change all leaves that it would change. Once
-/// there is memory for its entry in the history and for its reply, changes the tree and the subtree roots, and adds the
-/// entry.
-#[inline(never)]
-pub(crate) fn apply<S: Store + Drop>(
-    alloc: Global,
-    tree: &mut RankedTree<S>,
-    waiting: &mut Waiting,
-    given: &mut Given,
-    history: &mut Vec<Entry>,
-    asked: &Asked,
-    change: Change,
-) -> Result<Answer, Refusal>
-    requires may { AtFront
-        (λ request rest. MayApply (tree_state tree.old.tree) tree.old.subtrees.roots tree.old.exports waiting.old.pins
-        given.old.numbers.items given.old.sessions asked.now change request)
-        (waiting_at waiting.old.inboxes asked.now.rank) }
-    requires offered { IsOffered (shown_tree (tree_state tree.old.tree))
-        (λ n. IsRankNumber n) (offer asked.now.supply) }
-    requires there { asked.now.rank.0 < length given.old.numbers.items }
-    ensures applied { (past : List Applied) → length past ≡ (table given.old.sessions).forgotten → AtFront
-        (λ request rest. IsNewTo (past ++ history.old.items) request → AppliesRequest
-        (state_of (tree_state tree.old.tree) tree.old.subtrees.roots tree.old.exports given.old.numbers.items
-        waiting.old.inboxes waiting.old.pins (table given.old.sessions))
-        (state_of (tree_state tree.new.tree) tree.new.subtrees.roots tree.new.exports given.new.numbers.items
-        waiting.new.inboxes waiting.new.pins (table given.new.sessions)) (past ++ history.old.items)
-        (past ++ history.new.items) (MayRefuse tree.old tree.new) asked.now.rank result request rest)
-        (waiting_at waiting.old.inboxes asked.now.rank) }
-    ensures uses { AtFront
-        (λ request rest. UsesApplied (tree_state tree.old.tree) (tree_state tree.new.tree) (held_roots tree.old)
-        request.op tree.old.tree.caches tree.new.tree.caches result)
-        (waiting_at waiting.old.inboxes asked.now.rank) }
-    ensures kept { KeepsRoots (tree_state tree.old.tree)
-        (tree_state tree.new.tree) tree.old.subtrees.roots tree.new.subtrees.roots tree.old.exports tree.new.exports }
-    ensures count { length tree.new.tree.caches.used ≡ length tree.old.tree.caches.used }
-    ensures cap { tree.new.tree.caches.cap ≡ tree.old.tree.caches.cap }
-    ensures counted { tree.new.tree.faults ≡ tree.old.tree.faults + faults_told (result_err result) }
-{
-    tree.is_sound();
-    let prepared = match prepare(alloc, given, history, asked, &change) {
-        Ok(prepared) => prepared,
-        Err(refusal) => {
-            drop(change);
-            return refuse(waiting, asked.rank, refusal);
-        }
-    };
-    match tree.make_change(change) {
-        Ok(()) => Ok(commit(waiting, given, history, asked, prepared)),
-        Err(refusal) => {
-            drop(prepared);
-            refuse(waiting, asked.rank, refusal)
+impl<S: Store + Drop> Parts<S> {
+    /// Applies the new request at the front of its master's inbox, which may change all leaves that it would change.
+    /// Once there is memory for its entry in the history and for its reply, changes the tree and the subtree roots, and
+    /// adds the entry.
+    #[inline(never)]
+    pub(crate) fn apply(
+        &mut self,
+        alloc: Global,
+        history: &mut Vec<Entry>,
+        asked: &Asked,
+        change: Change,
+    ) -> Result<Answer, Refusal>
+        requires may { AtFront
+            (λ request rest. MayApply (cluster_of self.old).state self.old.given.sessions asked.now change request)
+            (waiting_at (cluster_of self.old).state.inboxes asked.now.rank) }
+        requires offered { IsOffered (shown (cluster_of self.old).state) (λ n. IsRankNumber n)
+            (offer asked.now.supply) }
+        requires there { asked.now.rank.0 < length (cluster_of self.old).state.numbers }
+        ensures applied { (past : List Applied) → length past ≡ (cluster_of self.old).state.sessions.forgotten → AtFront
+            (λ request rest. IsNewTo (past ++ history.old.items) request → AppliesRequest (cluster_of self.old).state
+            (cluster_of self.new).state (past ++ history.old.items) (past ++ history.new.items)
+            (TreeMayRefuse (cluster_of self.old) (cluster_of self.new)) asked.now.rank result request rest)
+            (waiting_at (cluster_of self.old).state.inboxes asked.now.rank) }
+        ensures uses { AtFront
+            (λ request rest. UsesApplied (cluster_of self.old).state.tree (cluster_of self.new).state.tree
+            (held_roots (cluster_of self.old).state) request.op (cluster_of self.old).caches
+            (cluster_of self.new).caches result) (waiting_at (cluster_of self.old).state.inboxes asked.now.rank) }
+        ensures kept { KeepsRoots (cluster_of self.old).state.tree (cluster_of self.new).state.tree
+            (cluster_of self.old).state.roots (cluster_of self.new).state.roots (cluster_of self.old).state.exports
+            (cluster_of self.new).state.exports }
+        ensures count { length (cluster_of self.new).caches.used ≡ length (cluster_of self.old).caches.used }
+        ensures cap { (cluster_of self.new).caches.cap ≡ (cluster_of self.old).caches.cap }
+        ensures counted { (cluster_of self.new).faults
+            ≡ (cluster_of self.old).faults + faults_told (result_err result) }
+    {
+        self.tree.is_sound();
+        let prepared = match prepare(alloc, &mut self.given, history, asked, &change) {
+            Ok(prepared) => prepared,
+            Err(refusal) => {
+                drop(change);
+                return refuse(&mut self.waiting, asked.rank, refusal);
+            }
+        };
+        match self.tree.make_change(change) {
+            Ok(()) => Ok(commit(&mut self.waiting, &mut self.given, history, asked, prepared)),
+            Err(refusal) => {
+                drop(prepared);
+                refuse(&mut self.waiting, asked.rank, refusal)
+            }
         }
     }
 }

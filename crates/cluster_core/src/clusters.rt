@@ -19,9 +19,7 @@ ghost use Rattle.cluster_core.specs.Administers.{ListsLeaves, TellsAuthority};
 ghost use Rattle.cluster_core.specs.Exporting.{TellsSentBytes};
 
 use crate::events::{Answer, Event};
-use crate::granting::grant_first;
-use crate::parts::{Given, Waiting};
-use crate::serving::serve_front;
+use crate::parts::{Given, Parts, Waiting};
 use inode_table::Numbers;
 use keeping::{Keep, RowEdit, Unkept};
 use mds_types::{Bytes, Entry, Frag, Ino, Limit, Rank, Refusal, Request};
@@ -36,26 +34,19 @@ use subtree_map::Subtrees;
 /// A cluster of metadata server ranks that serve one tree over a store.
 #[derive(Drop)]
 pub struct Cluster<S: Store + Drop> {
-    /// The tree, and the authority of each leaf.
-    pub(crate) tree: RankedTree<S>,
-    /// The requests that wait at each rank, and the grants for them.
-    pub(crate) waiting: Waiting,
-    /// The inode numbers that each rank has left, and the sessions of clients.
-    pub(crate) given: Given,
+    pub(crate) parts: Parts<S>,
 }
 
 impl<S: Store + Drop> Model for Cluster<S> {
     ghost use Rattle.std.specs.Coded.{codes};
     ghost use Rattle.std.specs.FinMap as map;
-    ghost use Rattle.sessions.specs.Rooms.{table};
-    ghost use Rattle.cluster_core.specs.State.{Core, core_of};
+    ghost use Rattle.cluster_core.specs.State.{Core, cluster_of};
 
     ghost Value = { Core };
 
     ghost coded = { Prim.hlevel (codes, map.code) };
 
-    ghost view = { λ c. core_of c.tree.tree c.tree.subtrees.roots c.tree.exports c.given.numbers.items c.waiting.inboxes
-        c.waiting.pins (table c.given.sessions) };
+    ghost view = { λ c. cluster_of c.parts };
 }
 
 impl<S: Store + Drop> Cluster<S> {
@@ -86,18 +77,19 @@ impl<S: Store + Drop> Cluster<S> {
         ensures faults { IfOk result (λ c. c.faults ≡ S.faults store) }
         ensures counted { IfErr result (λ back. S.faults back.1 ≡ S.faults store + faults_in back.0) }
     {
-        match parts_of(alloc, ranks) {
+        match beside_tree(alloc, ranks) {
             Err(_) => Err((Refusal::NoMemory, store)),
-            Ok(parts) => match RankedTree::format(alloc, store, ranks, places, limit) {
+            Ok(beside) => match RankedTree::format(alloc, store, ranks, places, limit) {
                 Err(back) => Err(back),
                 Ok(tree) => {
                     tree.is_sound();
-                    let Parts { waiting, given } = parts;
-                    Ok(Cluster {
+                    let Beside { waiting, given } = beside;
+                    let parts = Parts {
                         tree,
                         waiting,
                         given,
-                    })
+                    };
+                    Ok(Cluster { parts })
                 }
             },
         }
@@ -120,7 +112,7 @@ impl<S: Store + Drop> Cluster<S> {
             → IsSoundBehind opening past history.new.items self.new }
     {
         let answer = self.choose(alloc, history, event);
-        self.tree.is_sound();
+        self.parts.tree.is_sound();
         answer
     }
 
@@ -195,7 +187,7 @@ impl<S: Store + Drop> Cluster<S> {
             drop(request);
             return Err(Refusal::NotAuthority);
         }
-        if let Err(refusal) = self.waiting.inboxes.arrive(rank, request) {
+        if let Err(refusal) = self.parts.waiting.inboxes.arrive(rank, request) {
             return Err(refusal);
         }
         Ok(Answer::Nothing)
@@ -222,14 +214,7 @@ impl<S: Store + Drop> Cluster<S> {
         if !self.is_rank(rank) {
             return Err(Refusal::NotAuthority);
         }
-        serve_front(
-            alloc,
-            &mut self.tree,
-            &mut self.waiting,
-            &mut self.given,
-            history,
-            rank,
-        )
+        self.parts.serve_front(alloc, history, rank)
     }
 
     // A rank grants a waiting request those of the rank's leaves that it would change.
@@ -249,7 +234,7 @@ impl<S: Store + Drop> Cluster<S> {
         if !self.is_rank(rank) {
             return Err(Refusal::NotAuthority);
         }
-        grant_first(alloc, &mut self.tree, &mut self.waiting, rank, client, tid)
+        self.parts.grant_first(alloc, rank, client, tid)
     }
 
     /// The store.
@@ -257,7 +242,7 @@ impl<S: Store + Drop> Cluster<S> {
         ensures objects { S.objects result.now ≡ self.now.state.tree.objects }
         ensures faults { S.faults result.now ≡ self.now.faults }
     {
-        self.tree.store()
+        self.parts.tree.store()
     }
 
     /// The leaves of a directory in order. Refused `NoSuchFrag` if there is no such directory, or if memory is refused.
@@ -265,10 +250,10 @@ impl<S: Store + Drop> Cluster<S> {
         ensures listed { IfOk result (λ leaves. ListsLeaves self.now.state ino (Ok leaves.items)) }
         ensures err { IfErr result (λ reason. ListsLeaves self.now.state ino (Err reason)) }
     {
-        if !self.tree.is_dir(ino) {
+        if !self.parts.tree.is_dir(ino) {
             return Err(Refusal::NoSuchFrag);
         }
-        self.tree.leaves(alloc, ino)
+        self.parts.tree.leaves(alloc, ino)
     }
 
     /// The authority of a leaf of a directory. Refused `NoSuchFrag` exactly where there is no such directory or leaf.
@@ -276,7 +261,7 @@ impl<S: Store + Drop> Cluster<S> {
     pub fn authority(&self, ino: Ino, frag: Frag) -> Result<Rank, Refusal>
         ensures { TellsAuthority self.now.state (ino, frag) result }
     {
-        match self.tree.authority(ino, frag) {
+        match self.parts.tree.authority(ino, frag) {
             Some(rank) => Ok(rank),
             None => Err(Refusal::NoSuchFrag),
         }
@@ -288,14 +273,14 @@ impl<S: Store + Drop> Cluster<S> {
     pub fn sent_bytes(&self, alloc: Global, ino: Ino, frag: Frag) -> Result<Bytes, Refusal>
         ensures { TellsSentBytes self.now.state (ino, frag) result }
     {
-        self.tree.sent_bytes(alloc, ino, frag)
+        self.parts.tree.sent_bytes(alloc, ino, frag)
     }
 
     /// The subtree roots with their ranks.
     pub fn roots(&self) -> &Subtrees
         ensures { result.now.roots ≡ self.now.state.roots }
     {
-        self.tree.roots()
+        self.parts.tree.roots()
     }
 
     /// Makes each rank's hint on each subtree root of another rank name this rank, right or wrong. No answer depends on
@@ -303,14 +288,14 @@ impl<S: Store + Drop> Cluster<S> {
     pub fn set_hints(&mut self, rank: Rank)
         ensures { self.new ≡ self.old }
     {
-        self.tree.set_hints(rank);
+        self.parts.tree.set_hints(rank);
     }
 
     // Whether a rank is one of the cluster's.
     pub(crate) fn is_rank(&self, rank: Rank) -> bool
         ensures { result ≡ nat_lt rank.0 (length self.now.state.inboxes) }
     {
-        usize::from(rank.0) < self.waiting.inboxes.ranks()
+        usize::from(rank.0) < self.parts.waiting.inboxes.ranks()
     }
 }
 
@@ -324,7 +309,7 @@ impl<S: Keep + Drop> Cluster<S> {
         ensures objects { IfOk result (λ s. S.objects s.1.value ≡ self.old.state.tree.objects) }
         ensures failed { IfErr result (λ _. S.may_fail) }
     {
-        self.tree.keep(edits)
+        self.parts.tree.keep(edits)
     }
 
     /// Gathers all that was kept in one place, at the end of a run. Whatever it returns, the cluster is unchanged.
@@ -332,27 +317,27 @@ impl<S: Keep + Drop> Cluster<S> {
         ensures same { self.new ≡ self.old }
         ensures failed { IfErr result (λ _. S.may_fail) }
     {
-        self.tree.settle()
+        self.parts.tree.settle()
     }
 }
 
 // What a cluster has beside its tree.
 #[derive(Drop)]
-struct Parts {
+struct Beside {
     waiting: Waiting,
     given: Given,
 }
 
-// The parts of a new cluster: nothing waits, nothing was given, and each of so many ranks has an inbox and all its
-// numbers.
-fn parts_of(alloc: Global, ranks: u8) -> Result<Parts, AllocError>
+// What a new cluster has beside its tree: nothing waits, nothing was given, and each of so many ranks has an inbox and
+// all its numbers.
+fn beside_tree(alloc: Global, ranks: u8) -> Result<Beside, AllocError>
     requires { ranks ≤ 16 }
-    ensures inboxes { IfOk result (λ parts. parts.waiting.inboxes ≡ replicate ranks []) }
-    ensures pins { IfOk result (λ parts. parts.waiting.pins ≡ []) }
-    ensures numbers { IfOk result (λ parts. parts.given.numbers.items ≡ whole_supplies 0 ranks) }
-    ensures sessions { IfOk result (λ parts. table parts.given.sessions ≡ no_table) }
+    ensures inboxes { IfOk result (λ beside. beside.waiting.inboxes ≡ replicate ranks []) }
+    ensures pins { IfOk result (λ beside. beside.waiting.pins ≡ []) }
+    ensures numbers { IfOk result (λ beside. beside.given.numbers.items ≡ whole_supplies 0 ranks) }
+    ensures sessions { IfOk result (λ beside. table beside.given.sessions ≡ no_table) }
 {
-    Ok(Parts {
+    Ok(Beside {
         waiting: Waiting::new(alloc, ranks)?,
         given: Given::of(alloc, whole_supplies(alloc, ranks)?),
     })

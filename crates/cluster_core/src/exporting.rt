@@ -56,7 +56,7 @@ impl<S: Store + Drop> Cluster<S> {
         if !self.is_rank(to) {
             return Err(Refusal::NotAuthority);
         }
-        start_at(&mut self.tree, from, ino, frag, to)
+        start_at(&mut self.parts.tree, from, ino, frag, to)
     }
 
     // Freezes the region of a started export.
@@ -71,7 +71,7 @@ impl<S: Store + Drop> Cluster<S> {
         ensures caches { self.new.caches ≡ self.old.caches }
         ensures counted { self.new.faults ≡ self.old.faults + faults_told (result_err result) }
     {
-        freeze_at(&mut self.tree, &self.waiting.pins, ino, frag)
+        freeze_at(&mut self.parts.tree, &self.parts.waiting.pins, ino, frag)
     }
 
     // Tells the importer of a frozen region the region's bounds.
@@ -83,7 +83,7 @@ impl<S: Store + Drop> Cluster<S> {
         ensures caches { self.new.caches ≡ self.old.caches }
         ensures counted { self.new.faults ≡ self.old.faults + faults_told (result_err result) }
     {
-        self.tree.prep(alloc, ino, frag)?;
+        self.parts.tree.prep(alloc, ino, frag)?;
         Ok(Answer::Nothing)
     }
 
@@ -96,7 +96,7 @@ impl<S: Store + Drop> Cluster<S> {
         ensures caches { self.new.caches ≡ self.old.caches }
         ensures counted { self.new.faults ≡ self.old.faults + faults_told (result_err result) }
     {
-        let bytes = self.tree.send(alloc, ino, frag)?;
+        let bytes = self.parts.tree.send(alloc, ino, frag)?;
         Ok(Answer::Sent(bytes))
     }
 
@@ -121,7 +121,7 @@ impl<S: Store + Drop> Cluster<S> {
         ensures cap { self.new.caches.cap ≡ self.old.caches.cap }
         ensures counted { self.new.faults ≡ self.old.faults + faults_told (result_err result) }
     {
-        self.tree.import(alloc, ino, frag, bytes)?;
+        self.parts.tree.import(alloc, ino, frag, bytes)?;
         Ok(Answer::Nothing)
     }
 
@@ -136,7 +136,7 @@ impl<S: Store + Drop> Cluster<S> {
         ensures caches { self.new.caches ≡ self.old.caches }
         ensures counted { self.new.faults ≡ self.old.faults + faults_told (result_err result) }
     {
-        self.tree.finish(ino, frag)?;
+        self.parts.tree.finish(ino, frag)?;
         Ok(Answer::Nothing)
     }
 
@@ -149,7 +149,7 @@ impl<S: Store + Drop> Cluster<S> {
         ensures caches { self.new.caches ≡ self.old.caches }
         ensures counted { self.new.faults ≡ self.old.faults + faults_told (result_err result) }
     {
-        self.tree.cancel(ino, frag)?;
+        self.parts.tree.cancel(ino, frag)?;
         Ok(Answer::Nothing)
     }
 }

@@ -19,7 +19,7 @@ impl<S: Store + Drop> Cluster<S> {
     pub(crate) fn has_no_export(&self) -> bool
         ensures { IsTrue result ↔ (self.now.state.exports ≡ map.empty) }
     {
-        self.tree.exports().len() == 0
+        self.parts.tree.exports().len() == 0
     }
 
     /// Writes all that the store doesn't have yet, as `RankedTree::flush` does and refuses.
@@ -36,7 +36,7 @@ impl<S: Store + Drop> Cluster<S> {
         ensures cached { AreCached self.new }
         ensures exported { AreExported self.new }
     {
-        self.tree.flush(rt, alloc)
+        self.parts.tree.flush(rt, alloc)
     }
 }
 

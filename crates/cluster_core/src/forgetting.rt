@@ -24,7 +24,7 @@ impl<S: Store + Drop> Cluster<S> {
         ensures core { self.new ≡ with_sessions self.old
             (forget_all self.old.state.sessions (take result history.old.items)) }
     {
-        self.given.sessions.forget(history, count)
+        self.parts.given.sessions.forget(history, count)
     }
 
     // Forgets so many entries from the front of the history, or fewer. Returns how many, as `Sessions::forget_passed`
@@ -39,7 +39,7 @@ impl<S: Store + Drop> Cluster<S> {
         ensures core { self.new ≡ with_sessions self.old
             (forget_all self.old.state.sessions (take result history.old.items)) }
     {
-        self.given.sessions.forget_passed(history, count)
+        self.parts.given.sessions.forget_passed(history, count)
     }
 
     // How many entries are forgotten.
@@ -47,7 +47,7 @@ impl<S: Store + Drop> Cluster<S> {
         ensures forgotten { result ≡ self.now.state.sessions.forgotten }
         ensures most { result ≤ 2 ^ 62 }
     {
-        self.given.sessions.forgotten()
+        self.parts.given.sessions.forgotten()
     }
 }
 

@@ -13,8 +13,8 @@ impl<S: Store + Drop> Cluster<S> {
     pub(crate) fn give_up(&mut self, rank: Rank)
         ensures { GivesUpIn self.old self.new rank (waiting_at self.old.state.inboxes rank) }
     {
-        if self.waiting.inboxes.front(rank).is_some() {
-            self.waiting.end_front(rank);
+        if self.parts.waiting.inboxes.front(rank).is_some() {
+            self.parts.waiting.end_front(rank);
         }
     }
 }

@@ -3,122 +3,114 @@ ghost use Rattle.std.specs.Prelude.{◌≡◌, ◌+◌, ◌<◌, List, IfErr, If
 ghost use Rattle.objstore.specs.Objects.{faults_told};
 ghost use Rattle.std.specs.Result.{result_err};
 ghost use Rattle.mds_types.specs.declared.entries.Entry.{Entry as Applied};
-ghost use Rattle.mdcache.specs.Core.{state_of as tree_state};
-ghost use Rattle.sessions.specs.Table.{Table};
-ghost use Rattle.inode_table.specs.Numbers.{Supply};
 ghost use Rattle.inboxes.specs.Inboxes.{first_waiting};
-ghost use Rattle.cluster_core.specs.State.{state_of};
+ghost use Rattle.cluster_core.specs.State.{cluster_of, held_roots};
+ghost use Rattle.cluster_core.specs.Steps.{TreeMayRefuse};
 ghost use Rattle.cluster_core.specs.Uses.{UsesWaiting};
-ghost use Rattle.ranked_tree.specs.Ranked.{MayRefuse, held_roots};
 ghost use Rattle.cluster_core.specs.Grants.{AreHeldAmong, AreThawedEach, FindsNone, GrantsWaiting, HoldsOne, IsOneFrozen, with_grants};
 
 use crate::events::Answer;
-use crate::parts::Waiting;
+use crate::parts::Parts;
 use inboxes::{Pin, Pins};
 use mds_types::{Frag, Ino, Rank, Refusal};
 use namespace_ops::{changes, locate};
 use objstore::Store;
-use ranked_tree::RankedTree;
 use std::alloc::{AllocError, Global};
 
-/// A rank grants the first waiting copy of a request all fragments of the rank that it would change now, if none of
-/// them is frozen. Takes memory for the list of them, and for the grants, which are made on a copy: a refusal changes
-/// nothing.
-pub(crate) fn grant_first<S: Store + Drop>(
-    alloc: Global,
-    tree: &mut RankedTree<S>,
-    waiting: &mut Waiting,
-    rank: Rank,
-    client: u64,
-    tid: u64,
-) -> Result<Answer, Refusal>
-    ensures granted { (numbers : List Supply) (sessions : Table) (past : List Applied)
-        → GrantsWaiting (state_of (tree_state tree.old.tree) tree.old.subtrees.roots tree.old.exports numbers
-        waiting.old.inboxes waiting.old.pins sessions)
-        (state_of (tree_state tree.new.tree) tree.new.subtrees.roots tree.new.exports numbers waiting.new.inboxes
-        waiting.new.pins sessions) past past (MayRefuse tree.old tree.new) rank client tid result }
-    ensures uses { UsesWaiting (tree_state tree.old.tree)
-        (held_roots tree.old) tree.old.tree.caches tree.new.tree.caches (result_err result)
-        (first_waiting client tid waiting.old.inboxes) }
-    ensures same { tree_state tree.new.tree ≡ tree_state tree.old.tree }
-    ensures roots { tree.new.subtrees.roots ≡ tree.old.subtrees.roots }
-    ensures exports { tree.new.exports ≡ tree.old.exports }
-    ensures count { length tree.new.tree.caches.used ≡ length tree.old.tree.caches.used }
-    ensures cap { tree.new.tree.caches.cap ≡ tree.old.tree.caches.cap }
-    ensures counted { tree.new.tree.faults ≡ tree.old.tree.faults + faults_told (result_err result) }
-{
-    let Some(request) = waiting.inboxes.find(client, tid) else {
-        return Err(Refusal::InboxEmpty)
-    };
-    let places = locate(tree, rank, &request.op);
-    let limit = tree.limit();
-    let changed = changes(alloc, tree, limit, &request.op, places)?;
-    let mine = match some_held(alloc, tree, rank, &changed) {
-        Ok(mine) => mine,
-        Err(refusal) => return Err(refusal),
-    };
-    pin_all(&mut waiting.pins, client, tid, &mine)?;
-    Ok(Answer::Nothing)
-}
-
-// Those leaves whose authority is a rank. Refused `NotAuthority` exactly where there is none, `Frozen` if one of them
-// is frozen, and `NoMemory` only where there is one.
-fn some_held<S: Store + Drop>(
-    alloc: Global,
-    tree: &RankedTree<S>,
-    rank: Rank,
-    leaves: &Vec<(Ino, Frag)>,
-) -> Result<Vec<(Ino, Frag)>, Refusal>
-    ensures held { IfOk result
-        (λ held. AreHeldAmong (tree_state tree.now.tree) tree.now.subtrees.roots rank leaves.now.items held.items) }
-    ensures some { IfOk result (λ held. 0 < length held.items) }
-    ensures thawed { IfOk result
-        (λ held. AreThawedEach (tree_state tree.now.tree) tree.now.subtrees.roots tree.now.exports held.items) }
-    ensures refused { IfErr result
-        (FindsNone (tree_state tree.now.tree) tree.now.subtrees.roots tree.now.exports rank leaves.now.items) }
-{
-    let held = held_among(alloc, tree, rank, leaves)?;
-    if held.is_empty() {
-        return Err(Refusal::NotAuthority);
+impl<S: Store + Drop> Parts<S> {
+    /// A rank grants the first waiting copy of a request all fragments of the rank that it would change now, if none of
+    /// them is frozen. Takes memory for the list of them, and for the grants, which are made on a copy: a refusal
+    /// changes nothing.
+    pub(crate) fn grant_first(
+        &mut self,
+        alloc: Global,
+        rank: Rank,
+        client: u64,
+        tid: u64,
+    ) -> Result<Answer, Refusal>
+        ensures granted { (past : List Applied) → GrantsWaiting (cluster_of self.old).state (cluster_of self.new).state
+            past past (TreeMayRefuse (cluster_of self.old) (cluster_of self.new)) rank client tid result }
+        ensures uses { UsesWaiting (cluster_of self.old).state.tree (held_roots (cluster_of self.old).state)
+            (cluster_of self.old).caches (cluster_of self.new).caches (result_err result)
+            (first_waiting client tid (cluster_of self.old).state.inboxes) }
+        ensures same { (cluster_of self.new).state.tree ≡ (cluster_of self.old).state.tree }
+        ensures roots { (cluster_of self.new).state.roots ≡ (cluster_of self.old).state.roots }
+        ensures exports { (cluster_of self.new).state.exports ≡ (cluster_of self.old).state.exports }
+        ensures count { length (cluster_of self.new).caches.used ≡ length (cluster_of self.old).caches.used }
+        ensures cap { (cluster_of self.new).caches.cap ≡ (cluster_of self.old).caches.cap }
+        ensures counted { (cluster_of self.new).faults
+            ≡ (cluster_of self.old).faults + faults_told (result_err result) }
+    {
+        let Some(request) = self.waiting.inboxes.find(client, tid) else {
+            return Err(Refusal::InboxEmpty)
+        };
+        let places = locate(&self.tree, rank, &request.op);
+        let limit = self.tree.limit();
+        let changed = changes(alloc, &mut self.tree, limit, &request.op, places)?;
+        let mine = match self.some_held(alloc, rank, &changed) {
+            Ok(mine) => mine,
+            Err(refusal) => return Err(refusal),
+        };
+        pin_all(&mut self.waiting.pins, client, tid, &mine)?;
+        Ok(Answer::Nothing)
     }
-    if is_one_frozen(tree, &held) {
-        return Err(Refusal::Frozen);
-    }
-    Ok(held)
-}
 
-// Whether one of some leaves is frozen.
-fn is_one_frozen<S: Store + Drop>(tree: &RankedTree<S>, leaves: &Vec<(Ino, Frag)>) -> bool
-    ensures { MatchBool result
-        (IsOneFrozen (tree_state tree.now.tree) tree.now.subtrees.roots tree.now.exports leaves.now.items)
-        (AreThawedEach (tree_state tree.now.tree) tree.now.subtrees.roots tree.now.exports leaves.now.items) }
-{
-    for leaf in leaves {
-        if tree.is_frozen(leaf.0, leaf.1) {
-            return true;
+    // Those leaves whose authority is a rank. Refused `NotAuthority` exactly where there is none, `Frozen` if one of
+    // them is frozen, and `NoMemory` only where there is one.
+    fn some_held(
+        &self,
+        alloc: Global,
+        rank: Rank,
+        leaves: &Vec<(Ino, Frag)>,
+    ) -> Result<Vec<(Ino, Frag)>, Refusal>
+        ensures held { IfOk result
+            (λ held. AreHeldAmong (cluster_of self.now).state rank leaves.now.items held.items) }
+        ensures some { IfOk result (λ held. 0 < length held.items) }
+        ensures thawed { IfOk result (λ held. AreThawedEach (cluster_of self.now).state held.items) }
+        ensures refused { IfErr result (FindsNone (cluster_of self.now).state rank leaves.now.items) }
+    {
+        let held = self.held_among(alloc, rank, leaves)?;
+        if held.is_empty() {
+            return Err(Refusal::NotAuthority);
         }
-    }
-    false
-}
-
-// Those leaves whose authority is a rank. Memory can be refused only where there is one.
-fn held_among<S: Store + Drop>(
-    alloc: Global,
-    tree: &RankedTree<S>,
-    rank: Rank,
-    leaves: &Vec<(Ino, Frag)>,
-) -> Result<Vec<(Ino, Frag)>, AllocError>
-    ensures held { IfOk result
-        (λ held. AreHeldAmong (tree_state tree.now.tree) tree.now.subtrees.roots rank leaves.now.items held.items) }
-    ensures one { OnErr result (HoldsOne (tree_state tree.now.tree) tree.now.subtrees.roots rank leaves.now.items) }
-{
-    let mut held = Vec::new(alloc);
-    for leaf in leaves {
-        if tree.is_authority(rank, leaf.0, leaf.1) {
-            held.push(*leaf)?;
+        if self.is_one_frozen(&held) {
+            return Err(Refusal::Frozen);
         }
+        Ok(held)
     }
-    Ok(held)
+
+    // Whether one of some leaves is frozen.
+    fn is_one_frozen(&self, leaves: &Vec<(Ino, Frag)>) -> bool
+        ensures { MatchBool result (IsOneFrozen (cluster_of self.now).state leaves.now.items)
+            (AreThawedEach (cluster_of self.now).state leaves.now.items) }
+    {
+        for leaf in leaves {
+            if self.tree.is_frozen(leaf.0, leaf.1) {
+                return true;
+            }
+        }
+        false
+    }
+
+    // Those leaves whose authority is a rank. Memory can be refused only where there is one.
+    fn held_among(
+        &self,
+        alloc: Global,
+        rank: Rank,
+        leaves: &Vec<(Ino, Frag)>,
+    ) -> Result<Vec<(Ino, Frag)>, AllocError>
+        ensures held { IfOk result
+            (λ held. AreHeldAmong (cluster_of self.now).state rank leaves.now.items held.items) }
+        ensures one { OnErr result (HoldsOne (cluster_of self.now).state rank leaves.now.items) }
+    {
+        let mut held = Vec::new(alloc);
+        for leaf in leaves {
+            if self.tree.is_authority(rank, leaf.0, leaf.1) {
+                held.push(*leaf)?;
+            }
+        }
+        Ok(held)
+    }
 }
 
 // Grants all these leaves to a request; or none, if memory is refused.

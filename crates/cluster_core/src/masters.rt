@@ -16,7 +16,11 @@ use ranked_tree::RankedTree;
 /// Locates the names of an operation for the rank that serves it, and tells its master. The master is the authority of
 /// its dentry's leaf; of a rename, that of the destination's; of a readdir, that of the directory's first leaf. If the
 /// directory doesn't exist, the master is the serving rank itself. Takes no memory.
-pub fn locate_master<S: Store + Drop>(tree: &RankedTree<S>, rank: Rank, op: &Op) -> (Places, Rank)
+pub(crate) fn locate_master<S: Store + Drop>(
+    tree: &RankedTree<S>,
+    rank: Rank,
+    op: &Op,
+) -> (Places, Rank)
     ensures located { AreLocated (shown_tree (tree_state tree.now.tree)) tree.now.tree.covers
         (HoldsAt (tree_state tree.now.tree) (held_roots tree.now)) op.now result.0 }
     ensures master { IsMasterIn (tree_state tree.now.tree) tree.now.subtrees.roots rank op.now result.1 }
@@ -27,7 +31,7 @@ pub fn locate_master<S: Store + Drop>(tree: &RankedTree<S>, rank: Rank, op: &Op)
 
 /// Corrects a rank's hint on the subtree root that led it to another rank: from then on it names the authority that the
 /// master names. Takes no memory.
-pub fn correct_hint<S: Store + Drop>(tree: &mut RankedTree<S>, rank: Rank, places: &Places)
+pub(crate) fn correct_hint<S: Store + Drop>(tree: &mut RankedTree<S>, rank: Rank, places: &Places)
     ensures { tree.new ≡ tree.old }
 {
     if let Some(located) = places.main {

@@ -17,7 +17,7 @@ ghost use Rattle.cluster_core.specs.State.{core_of, shown};
 
 use crate::books::Book;
 use crate::clusters::Cluster;
-use crate::parts::{Given, Waiting};
+use crate::parts::{Given, Parts, Waiting};
 use crate::plain_trees::PlainTree;
 use crate::settled::Settled;
 use mdcache::Opening;
@@ -70,11 +70,12 @@ impl<S: Store + Drop> Cluster<S> {
         ensures objects { S.objects result ≡ self.state.tree.objects }
         ensures faults { S.faults result ≡ self.faults }
     {
-        let Cluster {
+        let Cluster { parts } = self;
+        let Parts {
             tree,
             waiting,
             given,
-        } = self;
+        } = parts;
         drop(waiting);
         drop(given);
         tree.into_store()
@@ -96,12 +97,12 @@ impl<S: Store + Drop> Cluster<S> {
     {
         tree.is_sound();
         let Opening { entries, numbers } = opening;
-        let cluster = Cluster {
+        let parts = Parts {
             tree,
             waiting,
             given: Given::of(alloc, numbers),
         };
-        (cluster, PlainTree::of(entries))
+        (Cluster { parts }, PlainTree::of(entries))
     }
 }
 

@@ -1,4 +1,4 @@
-//! The parts of a cluster beside its tree.
+//! The parts of a cluster.
 ghost use Rattle.std.specs.Prelude.{◌≡◌, ◌<◌, [], length, get_or, replicate, IfOk};
 ghost use Rattle.inboxes.specs.Inboxes.{waiting_at};
 ghost use Rattle.cluster_core.specs.Serve.{AtFront, HasLeft};
@@ -9,8 +9,23 @@ ghost use Rattle.cluster_core.specs.State.{no_supply};
 use inboxes::{Inboxes, Pins};
 use inode_table::Numbers;
 use mds_types::{Limit, Rank};
+use objstore::Store;
+use ranked_tree::RankedTree;
 use sessions::{SessionAt, Sessions};
 use std::alloc::{AllocError, Global};
+
+/// All parts of a cluster. The cluster's model, a `Core`, doesn't tell where a client's session is kept. Serving looks
+/// a session up once and uses its place later, so its functions are methods of the parts. `cluster_of` is the cluster
+/// that has these parts.
+#[derive(Drop)]
+pub(crate) struct Parts<S: Store + Drop> {
+    /// The tree, and the authority of each leaf.
+    pub(crate) tree: RankedTree<S>,
+    /// The requests that wait at each rank, and the grants for them.
+    pub(crate) waiting: Waiting,
+    /// The inode numbers that each rank has left, and the sessions of clients.
+    pub(crate) given: Given,
+}
 
 /// The requests that wait at each rank, and the grants for them.
 #[derive(Drop)]

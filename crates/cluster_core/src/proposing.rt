@@ -29,8 +29,14 @@ impl<S: Store + Drop> Cluster<S> {
         if !self.is_rank(rank) {
             return Err(Refusal::NotAuthority);
         }
-        let ranks = self.waiting.inboxes.ranks();
-        Ok(proposal(&self.tree, &self.waiting.pins, ranks, rank, is_settled))
+        let ranks = self.parts.waiting.inboxes.ranks();
+        Ok(proposal(
+            &self.parts.tree,
+            &self.parts.waiting.pins,
+            ranks,
+            rank,
+            is_settled,
+        ))
     }
 }
 

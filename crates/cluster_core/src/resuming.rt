@@ -82,7 +82,7 @@ impl<S: Store + Drop> Book<S> {
     pub fn sessions(&self) -> &Sessions
         ensures { table result.now ≡ self.now.core.state.sessions }
     {
-        &self.cluster.given.sessions
+        &self.cluster.parts.given.sessions
     }
 
     /// A client's mark: the least transaction number that is no longer refused `Trimmed`; 0 for an unknown client.
@@ -91,6 +91,7 @@ impl<S: Store + Drop> Book<S> {
     {
         match self
             .cluster
+            .parts
             .given
             .sessions
             .kept(self.history.as_slice(), client)
@@ -105,7 +106,7 @@ impl<S: Store + Drop> Book<S> {
         requires { rank.0 < length self.now.core.state.numbers }
         ensures { result ≡ (supply_of self.now.core.state rank).next }
     {
-        next_of(self.cluster.given.supply_of(rank), rank)
+        next_of(self.cluster.parts.given.supply_of(rank), rank)
     }
 }
 
@@ -133,7 +134,7 @@ impl<S: Store + Drop> Cluster<S> {
               { numbers = self.new.state.numbers; sessions = self.new.state.sessions };
         } }
     {
-        self.given.go_on(sessions, nexts);
+        self.parts.given.go_on(sessions, nexts);
     }
 }
 

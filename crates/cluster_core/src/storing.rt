@@ -70,16 +70,16 @@ impl<S: Store + Drop> Cluster<S> {
         requires { (opening : Opening) × (past : List Applied) × IsSoundBehind opening past history.now self.now }
         ensures { IfOk result (λ edits. WritesAll history.now self.now edits.items) }
     {
-        let alloc = *self.given.numbers.allocator();
-        let nexts = self.given.next_numbers(alloc)?;
-        edits_of(alloc, &self.given.sessions, history, nexts.as_slice())
+        let alloc = *self.parts.given.numbers.allocator();
+        let nexts = self.parts.given.next_numbers(alloc)?;
+        edits_of(alloc, &self.parts.given.sessions, history, nexts.as_slice())
     }
 
     // No client counts as changed any more.
     fn count_stored(&mut self)
         ensures { self.new ≡ with_sessions self.old (all_stored self.old.state.sessions) }
     {
-        self.given.sessions.clear_changed();
+        self.parts.given.sessions.clear_changed();
     }
 }
 

@@ -11,7 +11,7 @@ pub edits_of-requires-clause-numbers : goal.edits_of-requires-clause-numbers
 edits_of-requires-clause-numbers g c =
     let r = c.requires in
     let behind = subst (λ (k : Core). IsSoundBehind r.0 r.1 c.args.history.now k) (sym c.self.view_is) r.2 in
-    rw c.as_slice.ensures.value (next_inos r.0 (r.1 ++ c.args.history.now) c.self.inside.given.numbers.items c.in_ok-nexts.nexts.items behind.sound.supplied c.in_ok-nexts.ensures)
+    rw c.as_slice.ensures.value (next_inos r.0 (r.1 ++ c.args.history.now) c.self.inside.parts.given.numbers.items c.in_ok-nexts.nexts.items behind.sound.supplied c.in_ok-nexts.ensures)
 
 pub returns : goal.returns
 returns g c = IfOk-weaker c.edits_of.result _ _

@@ -4,7 +4,7 @@ use Rattle.cluster_core.proofs.clusters.Cluster.evict.Goals as goal
 
 pub evict-requires : goal.evict-requires
 evict-requires g c =
-    let is : length c.self.inside.tree.tree.caches.used ≡ length c.args.self.now.state.inboxes = ap (λ (k : Core). length k.caches.used) c.self.view_is ∙ c.requires in
+    let is : length c.self.inside.parts.tree.tree.caches.used ≡ length c.args.self.now.state.inboxes = ap (λ (k : Core). length k.caches.used) c.self.view_is ∙ c.requires in
     omega (arith, is, ltb-true c.args.rank.0 (length c.args.self.now.state.inboxes) (sym c.is_rank.ensures ∙ c.if-not-is_rank.false))
 
 pub returns-clause-evicted : goal.returns-clause-evicted
@@ -15,7 +15,7 @@ returns-clause-evicted g c past =
       (
         tt,
         refl,
-        (λ i. state_of (e.kept.state i) (e.roots i).roots (e.exports i) c.self.inside.given.numbers.items c.self.inside.waiting.inboxes c.self.inside.waiting.pins (table c.self.inside.given.sessions)),
+        (λ i. state_of (e.kept.state i) (e.roots i).roots (e.exports i) c.self.inside.parts.given.numbers.items c.self.inside.parts.waiting.inboxes c.self.inside.parts.waiting.pins (table c.self.inside.parts.given.sessions)),
         worked _ _ _ _ _ _ e.exports _ _ _ _ past (ap shown_tree e.kept.state),
       ),
       ap (λ s. s.roots) e.roots,

@@ -14,7 +14,7 @@ proposal-requires-clause-there g c =
 pub proposal-requires-clause-settled : goal.proposal-requires-clause-settled
 proposal-requires-clause-settled g c = λ told.
     let numbers = subst (λ (core : Core). length core.state.inboxes ≡ length core.state.numbers) (sym c.self.view_is) c.requires.numbers in
-    subst (λ (n : ℕ). WouldNot (sight_of c.self.inside.tree c.self.inside.waiting.pins n c.args.rank) OfPin) (sym (c.ranks-ranks.ensures ∙ numbers))
+    subst (λ (n : ℕ). WouldNot (sight_of c.self.inside.parts.tree c.self.inside.parts.waiting.pins n c.args.rank) OfPin) (sym (c.ranks-ranks.ensures ∙ numbers))
     (subst (λ (core : Core). WouldNot (sight core c.args.rank) OfPin) (sym c.self.view_is) (would_not c.args.self.now c.args.rank (c.requires.settled told)))
 
 pub returns : goal.returns
@@ -24,6 +24,6 @@ returns g c =
       proposed = (
         omega (arith, ltb-true c.args.rank.0 (length c.args.self.now.state.inboxes) (sym c.is_rank.ensures ∙ c.if-not-is_rank.false), c.requires.numbers),
         subst (λ (core : Core). IsProposal (sight core c.args.rank) c.proposal.result) c.self.view_is
-            (subst (λ (n : ℕ). IsProposal (sight_of c.self.inside.tree c.self.inside.waiting.pins n c.args.rank) c.proposal.result) (c.ranks-ranks.ensures ∙ numbers) c.proposal.ensures),
+            (subst (λ (n : ℕ). IsProposal (sight_of c.self.inside.parts.tree c.self.inside.parts.waiting.pins n c.args.rank) c.proposal.result) (c.ranks-ranks.ensures ∙ numbers) c.proposal.ensures),
       );
     }

@@ -24,7 +24,7 @@ serve_front-requires-clause-there g c =
 pub serve_front-requires-clause-masters : goal.serve_front-requires-clause-masters
 serve_front-requires-clause-masters g c =
     let sound = c.requires.2.sound in
-    subst (λ (core : Core). AreMastersThere core.state.tree core.state.roots c.args.rank (length core.state.inboxes)) (sym c.self.view_is)
+    subst (λ (core : Core). AreMastersThere core.state c.args.rank) (sym c.self.view_is)
     (masters_there c.requires.0 (c.requires.1 ++ c.args.history.now.items) c.args.self.now sound c.args.rank (there_of c.args.self.now sound.ranks c.args.rank (sym c.is_rank.ensures ∙ c.if-not-is_rank.false)))
 
 pub serve_front-requires-clause-valid : goal.serve_front-requires-clause-valid

@@ -5,7 +5,7 @@ use Rattle.cluster_core.proofs.clusters.Cluster.split.Goals as goal
 pub returns-clause-split : goal.returns-clause-split
 returns-clause-split g c past =
     at_rank _ _ _ (sym c.is_rank.ensures ∙ c.if-not-is_rank.false)
-    (rw (← c.self.view_is) (c.split_at.ensures.split c.self.inside.given.numbers.items c.self.inside.waiting.inboxes (table c.self.inside.given.sessions) past))
+    (rw (← c.self.view_is) (c.split_at.ensures.split c.self.inside.parts.given.numbers.items c.self.inside.parts.waiting.inboxes (table c.self.inside.parts.given.sessions) past))
 
 pub returns-clause-uses : goal.returns-clause-uses
 returns-clause-uses g c = at_rank _ _ _ (sym c.is_rank.ensures ∙ c.if-not-is_rank.false) (rw (← c.self.view_is) c.split_at.ensures.came)

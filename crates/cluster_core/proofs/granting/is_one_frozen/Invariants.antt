@@ -1,6 +1,0 @@
--- Each of the leaves is one of those left, or isn't frozen.
-use Rattle.cluster_core.proofs.Common.{Contains, IsFrozen, Leaf, drop, ◌⊎◌}
-use Rattle.cluster_core.proofs.granting.is_one_frozen.Given as goal
-
-abbrev pub invariant-loop-leaf : goal.invariant-loop-leaf
-invariant-loop-leaf g l = (q : Leaf) → Contains l.leaf-items q → Contains (drop l.leaf-index l.leaf-items) q ⊎ (IsFrozen l.tree.exports l.tree.subtrees.roots l.tree.tree.homes l.tree.tree.covers q → ⊥)
