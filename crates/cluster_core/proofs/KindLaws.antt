@@ -22,11 +22,11 @@ StandsAt s root = (export : StandingExport) × (map.get s.exports root ≡ Some 
 pub stands_where_it_goes_on : (s : Sight) (root : Leaf) → Passes s OfExport root → StandsAt s root
 stands_where_it_goes_on s root (event, on) = (on.export, on.stands, on.exporter)
 
-behind_so : (after : Option Leaf) (root : Leaf) → by.IsBehind after root → IsBehind after root
+behind_so : (after : Option Leaf) (root : Leaf) → by.IsRootBehind after root → IsBehind after root
 behind_so None root behind = tt
 behind_so (Some one) root behind = behind
 
-so_behind : (after : Option Leaf) (root : Leaf) → IsBehind after root → by.IsBehind after root
+so_behind : (after : Option Leaf) (root : Leaf) → IsBehind after root → by.IsRootBehind after root
 so_behind None root behind = tt
 so_behind (Some one) root behind = behind
 
