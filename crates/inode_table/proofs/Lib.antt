@@ -11,6 +11,7 @@ pub mod PinLaws
 pub mod PinnedRows
 pub mod RowLaws
 pub mod SeenRows
+pub mod SetRows
 pub mod TableLaws
 pub mod Tables
 pub mod TreeOrder

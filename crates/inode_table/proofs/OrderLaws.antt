@@ -25,10 +25,10 @@ abbrev number_in : Option (ℕ × Directory) → Option ℕ
 number_in row = option_map (λ e. e.0) row
 
 -- the numbers of a list that come after one
-abbrev behind : ℕ → List ℕ → List ℕ
+abbrev pub behind : ℕ → List ℕ → List ℕ
 behind d ks = filter (λ k. is_lt (nat_cmp d k)) ks
 
-numbers_after : (d : ℕ) (es : List (ℕ × Directory)) → behind d (list_map (λ e. e.0) es) ≡ list_map (λ e. e.0) (after nat_cmp d es)
+pub numbers_after : (d : ℕ) (es : List (ℕ × Directory)) → behind d (list_map (λ e. e.0) es) ≡ list_map (λ e. e.0) (after nat_cmp d es)
 numbers_after d [] = refl
 numbers_after d (e ∷ es) =
     elim (is_lt (nat_cmp d e.0)) as (λ b. cond b (e.0 ∷ behind d (list_map (λ e. e.0) es)) (behind d (list_map (λ e. e.0) es)) ≡ list_map (λ e. e.0) (cond b (e ∷ after nat_cmp d es) (after nat_cmp d es))) [

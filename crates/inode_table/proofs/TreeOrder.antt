@@ -1,6 +1,6 @@
 -- The directories in order whose leaves were set.
-use Rattle.std.proofs.Common.{◌≡◌, ℕ, ◌<◌, arith, Bool, true, false, cond, is_some, Bor}
-use Rattle.std.proofs.Common.{List, [], ◌∷◌, drop, length, Option, Some, None, refl, sym, ap, ◌∙◌}
+use Rattle.std.proofs.Common.{◌≡◌, ℕ, Bool, true, false, cond, is_some, Bor}
+use Rattle.std.proofs.Common.{List, [], ◌∷◌, drop, Option, Some, None, refl, sym, ap, ◌∙◌}
 use Rattle.std.specs.Prelude.{filter, slice_get}
 use Rattle.std.specs.Option.{option_copied}
 use Rattle.std.specs.Ordering.{eq_by_cmp, nat_cmp}
@@ -24,19 +24,6 @@ module _ (homes : Homes) (covers : Covers) where
   abbrev has_tree : ℕ → Bool
   has_tree d = is_some (map.get covers d)
 
-  first_of : (d : ℕ) (ds : List ℕ) (b : Bool) → has_tree d ≡ b
-      → filter has_tree (d ∷ ds) ≡ cond b (d ∷ filter has_tree ds) (filter has_tree ds)
-  first_of d ds b is = ap (λ c. cond c (d ∷ filter has_tree ds) (filter has_tree ds)) is
-
-  -- after the last directory there is none
-  pub no_tree : (after : Option Ino) → slice_get (dirs_after homes after) 0 ≡ None
-      → slice_get (trees_after homes covers after) 0 ≡ None
-  no_tree after none = go (dirs_after homes after) none
-    where
-      go : (ds : List ℕ) → slice_get ds 0 ≡ None → slice_get (filter has_tree ds) 0 ≡ None
-      go [] is = refl
-      go (d ∷ ds) is = let clash : Some d ≡ None = is in absurd cc
-
   -- the first of them has a tree
   pub first_has_tree : (after : Option Ino) (x : ℕ) → slice_get (trees_after homes covers after) 0 ≡ Some x
       → has_tree x ≡ true
@@ -49,17 +36,6 @@ module _ (homes : Homes) (covers : Covers) where
       any-filter_same (eq_by_cmp nat_cmp d) has_tree true (λ k tied. ap has_tree (sym (eqb-true d k (sym (unsigned_tied d k) ∙ tied))) ∙ has) (dirs_after homes None) ∙ all_dirs homes d known
 
   module _ (rootless : map.get homes 1 ≡ None) where
-    module _ (after : Option Ino) (x : Ino) (first : slice_get (dirs_after homes after) 0 ≡ Some x.0) where
-      -- a step of the walk: the next directory is it, or is passed over
-      pub here_a_tree : has_tree x.0 ≡ true → trees_after homes covers after ≡ x.0 ∷ trees_after homes covers (Some x)
-      here_a_tree has = ap (filter has_tree) (next_after homes rootless after x first) ∙ first_of x.0 (dirs_after homes (Some x)) true has
-
-      pub passed_over : has_tree x.0 ≡ false → trees_after homes covers after ≡ trees_after homes covers (Some x)
-      passed_over none = ap (filter has_tree) (next_after homes rootless after x first) ∙ first_of x.0 (dirs_after homes (Some x)) false none
-
-      pub fewer_dirs : length (dirs_after homes (Some x)) < length (dirs_after homes after)
-      fewer_dirs = let one : length (dirs_after homes after) ≡ length (x.0 ∷ dirs_after homes (Some x)) = ap length (next_after homes rootless after x first) in omega (arith, one)
-
     -- directories without a tree are passed over until the first with one comes
     found : (ds : List ℕ) (after : Option Ino) (x : Ino) → dirs_after homes after ≡ ds → slice_get (filter has_tree ds) 0 ≡ Some x.0
         → (is_known homes x.0 ≡ true) × (filter has_tree ds ≡ x.0 ∷ trees_after homes covers (Some x))

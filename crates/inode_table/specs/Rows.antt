@@ -1,5 +1,5 @@
 -- The rows in which a directory table keeps what it knows, and what contracts see of them.
-use Rattle.std.specs.Prelude.{ℕ, Bool, is_some, map, Option, Some, None, List}
+use Rattle.std.specs.Prelude.{ℕ, Bool, cond, is_some, map, Option, Some, None, List, [], ◌∷◌}
 use Rattle.std.specs.Ordering.{nat_cmp}
 use Rattle.std.specs.FinMap as map
 use Rattle.mds_types.specs.Frag.{Fragment}
@@ -19,6 +19,11 @@ leaves_of_row (Some row) = row.settings.leaves
 -- whether a directory below the root has leaves that were set
 abbrev pub has_leaves : DirRows → ℕ → Bool
 has_leaves rows d = is_some (leaves_of_row (map.get rows d))
+
+-- the numbers of those rows whose leaves were set
+abbrev pub set_in : List (ℕ × Directory) → List ℕ
+set_in [] = []
+set_in (e ∷ es) = cond (is_some e.1.settings.leaves) (e.0 ∷ set_in es) (set_in es)
 
 -- where each directory stands
 unfoldable pub homes_of : DirRows → Homes

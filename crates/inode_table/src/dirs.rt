@@ -58,7 +58,7 @@ pub(crate) struct Directory {
 /// leaf `*`, and takes no memory for it.
 #[derive(Debug, Drop)]
 pub struct Dirs {
-    root: Option<BoxedTree>,
+    pub(crate) root: Option<BoxedTree>,
     in_root: u64,
     pub(crate) below: SortedMap<u64, Directory>,
     // where the two rows were that were asked for last: a change of one of them finds it again there
@@ -222,21 +222,6 @@ impl Dirs {
             return Some(Ino(self.below.first()?.0));
         }
         Some(Ino(self.below.iter_after(&last.0).next()?.0))
-    }
-
-    /// The first directory after one, or of all, in the same order, whose leaves were ever set. None after the last.
-    /// Takes no memory, and two searches for each directory on the way.
-    pub fn next_tree(&self, after: Option<Ino>) -> Option<Ino>
-        ensures { option_map (λ (d : Ino). d.0) result ≡ slice_get (trees_after self.now.homes self.now.trees after) 0 }
-    {
-        let mut last = after;
-        while let Some(dir) = self.next_dir(last) {
-            if self.leaves(dir).is_some() {
-                return Some(dir);
-            }
-            last = Some(dir);
-        }
-        None
     }
 
     /// Whether there is such a directory, and it has this leaf. Takes no memory, and one search.

@@ -5,6 +5,7 @@ mod boxed_tree;
 mod counting;
 mod dirs;
 mod next_pinned;
+mod next_tree;
 mod numbers;
 mod set_leaves;
 mod settings;
